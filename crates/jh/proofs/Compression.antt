@@ -1,0 +1,83 @@
+-- Compression and its way back undo each other, over any two functions that do.
+use mathlib.Core.Path.{_≡_, refl, sym, ap, ap₂, subst, _∙_}
+use mathlib.Core.List.{List, [], _∷_, _++_}
+use Prim.Native.Nat.{ℕ, zero, suc, _≤_, _<_, _+_, _-_, _/_, _%_}
+use native.Mathlib.Omega.{arith}
+use native.Mathlib.Nat.{mod-lt}
+use lib.Dec.{lit<}
+use lib.ListN.{length, getD, take, drop, replicate}
+use borrow.Rule.Slice.PartMut.{putMid, postOf}
+use Rattle.std.proofs.shelf.Lists.{take-all, drop-all, append-nil, take-at, drop-at, take-append-drop, length-take-le, length-drop, length-append}
+use Rattle.bytes.specs.Bytes.{Bytes, xored, big-endian}
+use Rattle.bytes.proofs.Strings.{everywhere, bytes-from, small-append, small-take, small-drop, small-zeros, length-big-endian}
+use Rattle.bytes.proofs.Xored.{length-xored, xored-twice, xored-small, xored-past}
+use Rattle.jh.specs.Compression.{low, high, compress, uncompress, size-bytes, opening-over}
+
+-- ---- a block in one half
+
+pub low-bytes : (c m : List ℕ) → Bytes 128 c → Bytes 64 m → Bytes 128 (low c m)
+unfolding low
+low-bytes c m b k = bytes-from 128 (xored c m) (length-xored c m ∙ b .len) (xored-small c m (everywhere b) (everywhere k))
+
+pub low-low : (c m : List ℕ) → low (low c m) m ≡ c
+unfolding low
+low-low c m = xored-twice c m
+
+module _ (c m : List ℕ) (b : Bytes 128 c) (k : Bytes 64 m) where
+  front : length (take 64 c) ≡ 64
+  front = let n = b .len in length-take-le 64 c (omega arith)
+
+  pub high-bytes : Bytes 128 (high c m)
+  unfolding high
+  high-bytes =
+      bytes-from 128 (take 64 c ++ xored (drop 64 c) m)
+      (length-append (take 64 c) (xored (drop 64 c) m)
+      ∙ (let n = b .len in omega (arith, front, length-xored (drop 64 c) m, length-drop 64 c)))
+      (small-append (take 64 c) (xored (drop 64 c) m) (small-take 64 c (everywhere b)) (xored-small (drop 64 c) m (small-drop 64 c (everywhere b)) (everywhere k)))
+
+  pub high-high : high (high c m) m ≡ c
+  unfolding high
+  high-high =
+      ap₂ (λ (x y : List ℕ). x ++ xored y m) (take-at (take 64 c) (xored (drop 64 c) m) 64 front) (drop-at (take 64 c) (xored (drop 64 c) m) 64 front)
+      ∙ ap (λ (y : List ℕ). take 64 c ++ y) (xored-twice (drop 64 c) m)
+      ∙ take-append-drop 64 c
+
+-- ---- the two rules, from those of the permutation
+
+module _ (f g : List ℕ → List ℕ) (undone : (x : List ℕ) → Bytes 128 x → g (f x) ≡ x) (kept : (x : List ℕ) → Bytes 128 x → Bytes 128 (f x))
+    (c m : List ℕ) (b : Bytes 128 c) (k : Bytes 64 m) where
+  pub compress-undone : uncompress g (compress f c m) m ≡ c
+  compress-undone =
+      let l = low-bytes c m b k in
+      ap (λ (x : List ℕ). low (g x) m) (high-high (f (low c m)) m (kept (low c m) l) k)
+      ∙ ap (λ (x : List ℕ). low x m) (undone (low c m) l)
+      ∙ low-low c m
+
+  pub uncompress-undone : compress g (uncompress f c m) m ≡ c
+  uncompress-undone =
+      let h = high-bytes c m b k in
+      ap (λ (x : List ℕ). high (g x) m) (low-low (f (high c m)) m)
+      ∙ ap (λ (x : List ℕ). high x m) (undone (high c m) h)
+      ∙ high-high c m b k
+
+  pub compress-bytes : Bytes 128 (compress f c m)
+  compress-bytes = high-bytes (f (low c m)) m (kept (low c m) (low-bytes c m b k)) k
+
+-- ---- the opening value
+
+small-number : (k n j : ℕ) → getD (big-endian k n) j 0 < 256
+small-number zero n j = lit< tt
+small-number (suc k) n zero = mod-lt _ (lit< tt)
+small-number (suc k) n (suc j) = small-number k n j
+
+pub size-bytes-long : (n : ℕ) → Bytes 128 (size-bytes n)
+size-bytes-long n = bytes-from 128 (size-bytes n) refl (small-append (big-endian 2 n) (replicate 126 0) (small-number 2 n) (small-zeros 126))
+
+pub zero-block : Bytes 64 (replicate 64 0)
+zero-block = bytes-from 64 (replicate 64 0) refl (small-zeros 64)
+
+pub opening-bytes : (f : List ℕ → List ℕ) → ((x : List ℕ) → Bytes 128 x → Bytes 128 (f x)) → (n : ℕ) → Bytes 128 (opening-over f n)
+unfolding opening-over
+opening-bytes f kept n =
+    high-bytes (f (low (size-bytes n) (replicate 64 0))) (replicate 64 0)
+    (kept (low (size-bytes n) (replicate 64 0)) (low-bytes (size-bytes n) (replicate 64 0) (size-bytes-long n) zero-block)) zero-block

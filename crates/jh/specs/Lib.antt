@@ -1,0 +1,10 @@
+pub mod Bit
+pub mod Field
+pub mod Round
+pub mod Constants
+pub mod Permutation
+pub mod Inverse
+pub mod Laws
+pub mod Compression
+pub mod Message
+pub mod Jh
