@@ -9,28 +9,31 @@
   (ironclad:byte-array-to-hex-string
    (ironclad:digest-sequence (ecase size (224 :jh/224) (256 :jh/256) (384 :jh/384) (512 :jh)) message)))
 
-(defun room (n) (make-array n :element-type '(unsigned-byte 8)))
+(defun now () ; in microseconds; the internal clock ticks too coarsely
+  (multiple-value-bind (seconds rest) (sb-ext:get-time-of-day) (+ (* seconds 1000000) rest)))
+
+(defun octets (n) (make-array n :element-type '(unsigned-byte 8)))
 
 (defun digests (path)
   (with-open-file (in (sb-ext:parse-native-namestring path) :element-type '(unsigned-byte 8))
-    (let ((message (room (file-length in))))
+    (let ((message (octets (file-length in))))
       (read-sequence message in)
       (dolist (size '(224 256 384 512))
         (format t "~d~c~a~%" size #\Tab (digest size message))))))
 
 (defun hash (mib sizes)
   (let* ((n (ash mib 20))
-         (message (room n))
+         (message (octets n))
          last
          start)
     (dotimes (i n) (setf (aref message i) (ldb (byte 8 13) (* i 2654435761))))
-    (setf start (get-internal-real-time))
+    (dolist (size sizes) (digest size (octets 1))) ; the first call builds the method tables
+    (setf start (now))
     (dolist (size sizes) (setf last (digest size message)))
-    (format t "~,4f~c~a~%"
-            (/ (* (- (get-internal-real-time) start) 1d9) internal-time-units-per-second n)
-            #\Tab last)))
+    (format t "~,4f~c~a~%" (/ (* (- (now) start) 1d3) n) #\Tab last)))
 
-(let ((words (rest (member "digests" sb-ext:*posix-argv* :test #'string=))))
-  (mapc #'digests words))
-(let ((words (rest (member "hash" sb-ext:*posix-argv* :test #'string=))))
-  (when words (hash (parse-integer (first words)) (mapcar #'parse-integer (rest words)))))
+(let ((words (member-if (lambda (word) (member word '("digests" "hash") :test #'string=))
+                         sb-ext:*posix-argv*)))
+  (if (string= (first words) "hash")
+      (hash (parse-integer (second words)) (mapcar #'parse-integer (cddr words)))
+      (mapc #'digests (rest words))))

@@ -16,8 +16,8 @@ use Rattle.bytes.specs.Bytes.{Bytes, big-endian}
 pub everywhere : {n : ℕ} {xs : List ℕ} → Bytes n xs → (k : ℕ) → getD xs k 0 < 256
 everywhere {n} {xs} b k =
     elim (cases-lt k n) [
-      inl l ↦ b .small k l
-    | inr l ↦ let e = b .len in omega (arith, getD-past xs k 0 (omega arith))
+      | inl l ↦ b .small k l
+      | inr l ↦ let e = b .len in omega (arith, getD-past xs k 0 (omega arith))
     ]
 
 pub bytes-from : (n : ℕ) (xs : List ℕ) → length xs ≡ n → ((k : ℕ) → getD xs k 0 < 256) → Bytes n xs

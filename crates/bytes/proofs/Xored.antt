@@ -55,3 +55,15 @@ mask-more xs ms i h g =
     ap (λ (a : ℕ). set (over i (xored xs ms) xs) i (bitXor a (getD ms i 0))) (over-at i (xored xs ms) xs i n (omega arith) h)
     ∙ ap (set (over i (xored xs ms) xs) i) (sym (xored-at xs ms i h g))
     ∙ over-more i (xored xs ms) xs n h
+
+xored-none : (xs : List ℕ) → xored xs [] ≡ xs
+xored-none [] = refl
+xored-none (x ∷ xs) = refl
+
+-- a mask of at most n bytes stays in the first n
+pub xored-front : (n : ℕ) (xs ms : List ℕ) → length ms ≤ n → xored (take n xs) ms ++ drop n xs ≡ xored xs ms
+xored-front zero xs [] h = sym (xored-none xs)
+xored-front zero xs (m ∷ ms) h = absurd (not-suc-le-zero h)
+xored-front (suc n) [] ms h = refl
+xored-front (suc n) (x ∷ xs) [] h = ap (λ (ys : List ℕ). x ∷ ys) (take-append-drop n xs)
+xored-front (suc n) (x ∷ xs) (m ∷ ms) h = ap (λ (ys : List ℕ). bitXor x m ∷ ys) (xored-front n xs ms (le-of-suc-le-suc h))

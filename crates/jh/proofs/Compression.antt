@@ -10,7 +10,7 @@ use borrow.Rule.Slice.PartMut.{putMid, postOf}
 use Rattle.std.proofs.shelf.Lists.{take-all, drop-all, append-nil, take-at, drop-at, take-append-drop, length-take-le, length-drop, length-append}
 use Rattle.bytes.specs.Bytes.{Bytes, xored, big-endian}
 use Rattle.bytes.proofs.Strings.{everywhere, bytes-from, small-append, small-take, small-drop, small-zeros, length-big-endian}
-use Rattle.bytes.proofs.Xored.{length-xored, xored-twice, xored-small, xored-past}
+use Rattle.bytes.proofs.Xored.{length-xored, xored-twice, xored-small, xored-front}
 use Rattle.jh.specs.Compression.{low, high, compress, uncompress, size-bytes, opening-over}
 
 -- ---- a block in one half
@@ -42,6 +42,19 @@ module _ (c m : List ℕ) (b : Bytes 128 c) (k : Bytes 64 m) where
       ∙ ap (λ (y : List ℕ). take 64 c ++ y) (xored-twice (drop 64 c) m)
       ∙ take-append-drop 64 c
 
+-- a half after the exclusive or, as a write to a part of the chain value is read
+pub put-low : (c m y : List ℕ) → length m ≡ 64 → y ≡ xored (take 64 c) m → y ++ postOf 0 64 c ≡ low c m
+unfolding low
+put-low c m y n e = ap (λ (z : List ℕ). z ++ drop 64 c) e ∙ xored-front 64 c m (omega arith)
+
+pub put-high : (c m y : List ℕ) → length c ≡ 128 → y ≡ xored (take 64 (drop 64 c)) m → putMid 64 64 c y ≡ high c m
+unfolding high
+put-high c m y n e =
+    let d = length-drop 64 c in
+    let r : length (drop 64 c) ≤ 64 = omega arith in
+    ap₂ (λ (z w : List ℕ). take 64 c ++ (z ++ w)) (e ∙ ap (λ (z : List ℕ). xored z m) (take-all 64 (drop 64 c) r)) (drop-all 64 (drop 64 c) r)
+    ∙ ap (λ (z : List ℕ). take 64 c ++ z) (append-nil (xored (drop 64 c) m))
+
 -- ---- the two rules, from those of the permutation
 
 module _ (f g : List ℕ → List ℕ) (undone : (x : List ℕ) → Bytes 128 x → g (f x) ≡ x) (kept : (x : List ℕ) → Bytes 128 x → Bytes 128 (f x))
@@ -60,8 +73,8 @@ module _ (f g : List ℕ → List ℕ) (undone : (x : List ℕ) → Bytes 128 x 
       ∙ ap (λ (x : List ℕ). high x m) (undone (high c m) h)
       ∙ high-high c m b k
 
-  pub compress-bytes : Bytes 128 (compress f c m)
-  compress-bytes = high-bytes (f (low c m)) m (kept (low c m) (low-bytes c m b k)) k
+pub compress-bytes : (f : List ℕ → List ℕ) → ((x : List ℕ) → Bytes 128 x → Bytes 128 (f x)) → (c m : List ℕ) → Bytes 128 c → Bytes 64 m → Bytes 128 (compress f c m)
+compress-bytes f kept c m b k = high-bytes (f (low c m)) m (kept (low c m) (low-bytes c m b k)) k
 
 -- ---- the opening value
 
@@ -78,6 +91,4 @@ zero-block = bytes-from 64 (replicate 64 0) refl (small-zeros 64)
 
 pub opening-bytes : (f : List ℕ → List ℕ) → ((x : List ℕ) → Bytes 128 x → Bytes 128 (f x)) → (n : ℕ) → Bytes 128 (opening-over f n)
 unfolding opening-over
-opening-bytes f kept n =
-    high-bytes (f (low (size-bytes n) (replicate 64 0))) (replicate 64 0)
-    (kept (low (size-bytes n) (replicate 64 0)) (low-bytes (size-bytes n) (replicate 64 0) (size-bytes-long n) zero-block)) zero-block
+opening-bytes f kept n = compress-bytes f kept (size-bytes n) (replicate 64 0) (size-bytes-long n) zero-block

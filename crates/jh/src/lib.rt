@@ -5,24 +5,20 @@ ghost use Rattle.jh.specs.Laws.{Boxes-undone, L-undone, Permute-undone, Round-
 pub fn table_laws()
     ensures boxes { λ _. ⌜ Boxes-undone ⌝ }
     ensures linear { λ _. ⌜ L-undone ⌝ }
-{
-}
+{}
 
 // P_d and R_d are undone by their inverses, and undo them, at every dimension d from 2 on.
 pub fn round_laws()
     ensures permute { λ _. ⌜ Permute-undone ⌝ }
     ensures round { λ _. ⌜ Round-undone ⌝ }
-{
-}
+{}
 
 // E8 is undone by its inverse, and undoes it, on every 128 bytes.
 pub fn e8_laws()
     ensures { λ _. ⌜ E8-undone ⌝ }
-{
-}
+{}
 
 // C_0 is the fraction of the square root of 2.
 pub fn constant_laws()
     ensures { λ _. ⌜ C0-root ⌝ }
-{
-}
+{}

@@ -5,7 +5,15 @@ ghost use Prim.Native.Nat.{ℕ};
 ghost use Rattle.bytes.specs.Bytes.{Bytes};
 ghost use Rattle.refusals.specs.Sizes.{bits-in};
 ghost use Rattle.refusals.specs.declared.size.DigestSize.{DigestSize as Size};
+use refusals::refusal::Refusal;
 use refusals::size::DigestSize;
+
+// A press that comes back, with the refusal of the call that it was given to.
+#[derive(Drop)]
+pub struct Declined<P> {
+    pub press: P,
+    pub refusal: Refusal,
+}
 
 // A chain value: what stands between two blocks.
 pub type Chain = [u8; 128];
