@@ -6,3 +6,12 @@ pub mod Rounds
 pub mod Grouping
 pub mod Whole
 pub mod Compression
+pub mod Lengths
+pub mod Packing
+pub mod Blocks
+pub mod Padded
+pub mod Means
+pub mod Layers
+pub mod Moves
+pub mod Turns
+pub mod Linear

@@ -7,4 +7,6 @@ pub mod Inverse
 pub mod Laws
 pub mod Compression
 pub mod Message
+pub mod Ending
 pub mod Jh
+pub mod Row

@@ -33,6 +33,10 @@ padded m = m ++ (true ∷ (replicate (zero-bits (length m)) false ++ low-bits 12
 abbrev pub block : List ℕ → ℕ → List ℕ
 block m i = take 64 (drop (64 * i) m)
 
+-- the bytes behind the last whole block
+abbrev pub rest : List ℕ → List ℕ
+rest m = drop (64 * (length m / 64)) m
+
 -- the chain value after the first n blocks of m
 abbrev pub through : (List ℕ → List ℕ → List ℕ) → List ℕ → ℕ → List ℕ → List ℕ
 through step opening zero m = opening

@@ -1,5 +1,6 @@
 // JH as its public report defines it, in specs/, and what is proved about the definitions alone.
 ghost use Rattle.jh.specs.Laws.{Boxes-undone, L-undone, Permute-undone, Round-undone, E8-undone, C0-root};
+ghost use Rattle.jh.specs.Message.{Whole-blocks};
 
 // The S-boxes and L are undone by their inverses, and undo them.
 pub fn table_laws()
@@ -21,4 +22,9 @@ pub fn e8_laws()
 // C_0 is the fraction of the square root of 2.
 pub fn constant_laws()
     ensures { λ _. ⌜ C0-root ⌝ }
+{}
+
+// Every padded message is a row of whole blocks.
+pub fn padding_laws()
+    ensures { λ _. ⌜ Whole-blocks ⌝ }
 {}

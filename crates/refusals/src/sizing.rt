@@ -18,6 +18,15 @@ impl Refusal {
             Refusal::Bytes => 2,
             Refusal::Bits => 3,
             Refusal::Buffer => 4,
+            Refusal::Length => 5,
+            Refusal::Full => 6,
+            Refusal::Standing => 7,
+            Refusal::Serial => 8,
+            Refusal::Form => 9,
+            Refusal::Price => 10,
+            Refusal::Shipped => 11,
+            Refusal::Unknown => 12,
+            Refusal::Empty => 13,
         }
     }
 }

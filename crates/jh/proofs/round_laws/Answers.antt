@@ -1,6 +1,5 @@
 use mathlib.Core.Path.{_∙_, sym}
-use Prim.Native.Nat.{ℕ, _-_, _^_, _*_}
-use lib.ListN.{length}
+use Prim.Native.Nat.{ℕ, _-_, _^_}
 use Rattle.jh.proofs.Places.{fours, length-fours}
 use Rattle.jh.proofs.Undone.{permute-undone, unpermute-undone}
 use Rattle.jh.proofs.Rounds.{fours-of, round-undone, unround-undone, round-long, unround-long, round-small, unround-small}

@@ -1,0 +1,4 @@
+pub mod Contents
+pub mod States
+pub mod Daybook
+pub mod Course

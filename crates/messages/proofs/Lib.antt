@@ -1,0 +1,4 @@
+mod Grown
+mod Endings
+mod Marks
+mod Joins

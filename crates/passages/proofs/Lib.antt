@@ -1,0 +1,3 @@
+pub mod Encodings
+pub mod Order
+pub mod Sought

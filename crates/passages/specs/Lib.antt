@@ -1,0 +1,4 @@
+pub mod Fields
+pub mod Coding
+pub mod Rows
+pub mod Laws

@@ -1,0 +1,3 @@
+// The window of a roll: the passages that are not shipped yet.
+mod places;
+pub mod window;
