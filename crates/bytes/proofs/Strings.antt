@@ -3,6 +3,7 @@ use mathlib.Core.Path.{_≡_, refl, sym, ap, subst, _∙_}
 use mathlib.Core.List.{List, [], _∷_, _++_}
 use mathlib.Core.Logic.{inl, inr}
 use Prim.Native.Nat.{ℕ, zero, suc, _+_, _<_, _≤_}
+use native.Mathlib.Nat.{mod-lt}
 use native.Mathlib.Omega.{arith}
 use lib.Dec.{lit<}
 use lib.ListN.{length, getD, replicate, take, drop}
@@ -53,3 +54,8 @@ small-zeros (suc n) (suc k) = small-zeros n k
 pub length-big-endian : (k n : ℕ) → length (big-endian k n) ≡ k
 length-big-endian zero n = refl
 length-big-endian (suc k) n = ap suc (length-big-endian k n)
+
+pub small-big-endian : (k n j : ℕ) → getD (big-endian k n) j 0 < 256
+small-big-endian zero n j = lit< tt
+small-big-endian (suc k) n zero = mod-lt _ (lit< tt)
+small-big-endian (suc k) n (suc j) = small-big-endian k n j

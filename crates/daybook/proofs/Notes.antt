@@ -6,6 +6,7 @@ use Prim.Native.Nat.{ℕ, _+_, _<_, _≤_}
 use native.Mathlib.Omega.{arith}
 use lib.Dec.{eqb}
 use lib.ListN.{length, getD, take, drop}
+use Rattle.std.specs.Iters.{folded}
 use Rattle.std.specs.shelf.Lists.{All, sumBy}
 use Rattle.std.proofs.shelf.Tests.{eq-eqb, ne-eqb}
 use Rattle.std.proofs.shelf.Lists.{take-append-le, drop-append-le, take-at, drop-at, length-take-le, length-drop, length-append, take-more, getD-drop, drop-drop}
@@ -17,7 +18,7 @@ use Rattle.passages.specs.Fields.{serial-of, charged-of, formed, priced}
 use Rattle.passages.specs.Rows.{last-serial, has, without}
 use Rattle.daybook.specs.Contents.{Contents, refused-pass, refused-cancel, refused-ship, refused-save, contents-length, text-length, passed, cancelled, oldest, sent, standing-count, charged-cents, top-serial}
 use Rattle.daybook.specs.Daybook.{Daybook, Call, archived, waiting, next-out, cents-of, saved-length, refusal, noted, next}
-use Rattle.daybook.specs.Daybook.Call.{passing, cancelling, shipping, saving}
+use Rattle.daybook.specs.Daybook.Call.{passing, cancelling, shipping, closing, reopening, saving, resuming}
 use Rattle.daybook.specs.Course.{Keeps}
 use Rattle.daybook.proofs.Chains.{folded-parts}
 
@@ -26,6 +27,23 @@ accepted d c e = ap (λ b. cond b (noted d c) d) (eq-eqb (refusal d c) 0 e)
 
 pub refused : (d : Daybook) (c : Call) → (refusal d c ≡ 0 → ⊥) → next d c ≡ d
 refused d c h = ap (λ b. cond b (noted d c) d) (ne-eqb (refusal d c) 0 h)
+
+noted-size : (d : Daybook) (c : Call) → noted d c .size ≡ d .size
+noted-size d (passing m) = refl
+noted-size d (cancelling n) = refl
+noted-size d (shipping room) = refl
+noted-size d closing = refl
+noted-size d reopening = refl
+noted-size d (saving room) = refl
+noted-size d resuming = refl
+
+next-size : (d : Daybook) (c : Call) → next d c .size ≡ d .size
+next-size d c = elim (eqb (refusal d c) 0) as (λ b. (cond b (noted d c) d) .size ≡ d .size) [ true ↦ noted-size d c | false ↦ refl ]
+
+-- a course keeps the size
+pub size-kept : (d : Daybook) (calls : List Call) → folded next d calls .size ≡ d .size
+size-kept d [] = refl
+size-kept d (c ∷ calls) = size-kept (next d c) calls ∙ next-size d c
 
 all-without : (P : List ℕ → Type 0) (n : ℕ) (ms : List (List ℕ)) → All P ms → All P (without n ms)
 all-without P n [] h = h

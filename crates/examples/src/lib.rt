@@ -4,5 +4,4 @@ ghost use Rattle.examples.specs.Examples.{Worked-examples};
 // Each row of the table in specs/Examples.antt holds.
 pub fn worked_examples()
     ensures { λ _. ⌜ Worked-examples ⌝ }
-{
-}
+{}

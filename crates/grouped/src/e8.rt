@@ -49,12 +49,14 @@ pub impl Permutation for Grouped as GroupedPermutation {
 
     ghost preimage = { λ _. e8⁻¹ };
 
+    // The state becomes its image under E8.
     fn forth(&self, state: &mut [u8; 128]) {
         let mut elements = group(state);
         rounds_forth(&mut elements, ROUNDS);
         *state = ungroup(&elements);
     }
 
+    // The state becomes its preimage under E8.
     fn back(&self, state: &mut [u8; 128]) {
         let mut elements = group(state);
         rounds_back(&mut elements, ROUNDS);

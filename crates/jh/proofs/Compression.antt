@@ -3,13 +3,12 @@ use mathlib.Core.Path.{_≡_, refl, sym, ap, ap₂, subst, _∙_}
 use mathlib.Core.List.{List, [], _∷_, _++_}
 use Prim.Native.Nat.{ℕ, zero, suc, _≤_, _<_, _+_, _-_, _/_, _%_}
 use native.Mathlib.Omega.{arith}
-use native.Mathlib.Nat.{mod-lt}
 use lib.Dec.{lit<}
 use lib.ListN.{length, getD, take, drop, replicate}
 use borrow.Rule.Slice.PartMut.{putMid, postOf}
 use Rattle.std.proofs.shelf.Lists.{take-all, drop-all, append-nil, take-at, drop-at, take-append-drop, length-take-le, length-drop, length-append}
 use Rattle.bytes.specs.Bytes.{Bytes, xored, big-endian}
-use Rattle.bytes.proofs.Strings.{everywhere, bytes-from, small-append, small-take, small-drop, small-zeros, length-big-endian}
+use Rattle.bytes.proofs.Strings.{everywhere, bytes-from, small-append, small-take, small-drop, small-zeros, small-big-endian}
 use Rattle.bytes.proofs.Xored.{length-xored, xored-twice, xored-small, xored-front}
 use Rattle.jh.specs.Compression.{low, high, compress, uncompress, size-bytes, opening-over}
 
@@ -78,13 +77,8 @@ compress-bytes f kept c m b k = high-bytes (f (low c m)) m (kept (low c m) (low-
 
 -- ---- the opening value
 
-small-number : (k n j : ℕ) → getD (big-endian k n) j 0 < 256
-small-number zero n j = lit< tt
-small-number (suc k) n zero = mod-lt _ (lit< tt)
-small-number (suc k) n (suc j) = small-number k n j
-
 pub size-bytes-long : (n : ℕ) → Bytes 128 (size-bytes n)
-size-bytes-long n = bytes-from 128 (size-bytes n) refl (small-append (big-endian 2 n) (replicate 126 0) (small-number 2 n) (small-zeros 126))
+size-bytes-long n = bytes-from 128 (size-bytes n) refl (small-append (big-endian 2 n) (replicate 126 0) (small-big-endian 2 n) (small-zeros 126))
 
 pub zero-block : Bytes 64 (replicate 64 0)
 zero-block = bytes-from 64 (replicate 64 0) refl (small-zeros 64)

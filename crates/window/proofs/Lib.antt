@@ -1,2 +1,3 @@
 pub mod Shifts
 pub mod Held
+pub mod Changes

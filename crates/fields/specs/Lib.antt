@@ -1,0 +1,5 @@
+pub mod Cuts
+pub mod Decimals
+pub mod Hex
+pub mod Faults
+pub mod Texts

@@ -1,0 +1,3 @@
+mod Circuits
+mod Ends
+mod OneRound

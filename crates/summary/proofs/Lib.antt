@@ -1,0 +1,4 @@
+mod Puts
+mod Accepted
+mod Feeding
+mod Reported

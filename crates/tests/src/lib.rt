@@ -1,0 +1,3 @@
+// Tests of the public calls.
+#[cfg(test)]
+mod digests;

@@ -1,0 +1,16 @@
+use mathlib.Core.Path.{_≡_}
+use mathlib.Core.Bool.{_||_}
+use lib.Bits.{bitOr}
+use lib.ListN.{length}
+use Rattle.words.specs.Bits.{wordBit}
+use borrow.Author.Needs.{needs}
+use Rattle.slicing.proofs.Bits.{bit-or}
+use Rattle.words.proofs.Lanes.{lanes-by-bits}
+use Rattle.words.proofs.word.Word.or.Needs as need
+
+pub returns : need.returns
+unfolding wordBit
+returns c i =
+    let p : length (c .args .self .lanes) ≡ 2 = search needs in
+    let q : length (c .args .other .lanes) ≡ 2 = search needs in
+    lanes-by-bits bitOr _||_ bit-or (c .args .self .lanes) (c .args .other .lanes) p q i
