@@ -26,17 +26,19 @@ INLINE void substitute(Word *x0, Word *x1, Word *x2, Word *x3, Word c) {
 
 // The steps of substitute undone from the last to the first; t comes from the outputs.
 INLINE void unsubstitute(Word *x0, Word *x1, Word *x2, Word *x3, Word c) {
-  Word t = xor(c, and(xor(*x0, *x3), xor(*x1, and_not(*x2, *x0))));
-  *x2 = xor(*x2, t);
-  *x1 = xor(*x1, and(t, *x0));
-  *x3 = xor(*x3, and(*x1, *x2));
-  *x0 = xor(*x0, or(*x1, *x3));
-  *x2 = xor(*x2, and_not(*x3, *x0));
-  *x1 = xor(*x1, and(*x0, *x2));
-  *x3 = xor(*x3, and_not(*x1, *x2));
-  *x0 = xor(*x0, and(*x2, *x3));
-  *x0 = xor(*x0, and_not(*x2, c));
-  *x3 = not(*x3);
+  Word y0 = *x0, y1 = *x1, y2 = *x2, n3 = not(*x3);
+  Word t0 = xor(y0, *x3);
+  Word t1 = and_not(y0, y1);
+  Word t2 = xor(y2, c);
+  Word t3 = xor(y1, and_not(c, y0));
+  Word t4 = and(t0, t2);
+  Word t5 = and(n3, t2);
+  Word t6 = and(t0, xor(t3, t5));
+  Word t7 = and_not(t3, xor(y0, t4));
+  *x1 = xor(t6, t7);
+  *x2 = xor(and(n3, t3), and_not(t1, t2));
+  *x3 = xor(xor(and_not(t1, n3), t4), or(t2, t6));
+  *x0 = xor(and_not(t7, or(t0, t5)), and_not(*x2, c));
 }
 
 // The linear transformation L; the even words hold the first elements of the pairs.

@@ -8,37 +8,24 @@ use Rattle.std.specs.declared.result.Result.{Result}
 use Rattle.std.specs.declared.result.Result.the-variants.{Ok, Err}
 use Rattle.std.specs.Iters.{folded}
 use Rattle.std.specs.Vec.{made}
-use Rattle.std.specs.shelf.Lists.{All}
 use Rattle.std.proofs.shelf.Sums.{folded-push}
 use Rattle.std.proofs.shelf.Elements.{all-take, all-drop}
 use Rattle.std.proofs.shelf.Ways.{tells}
 use Rattle.bytes.specs.Bytes.{Bytes}
 use Rattle.passages.specs.Rows.{without, onward, later}
 use Rattle.refusals.specs.declared.refusal.Refusal.{Refusal}
-use Rattle.refusals.specs.declared.refusal.Refusal.the-variants.{Size, Bytes as TooMany, Bits, Buffer, Length, Full, Standing, Serial, Form, Price, Shipped, Unknown, Empty}
+use Rattle.refusals.proofs.Numbers.{positive}
 use Rattle.refusals.specs.Refusals.{number, outcome, ship-refusal}
-use Rattle.daybook.specs.Contents.{Contents, nothing-yet, standing-count, refused-pass, refused-cancel, refused-ship, refused-save, oldest}
+use Rattle.daybook.specs.Contents.{standing-count, refused-pass, refused-cancel, refused-ship, refused-save}
 use Rattle.daybook.specs.States.{State, unwound, after-open, after-pass, after-cancel, after-ship, after-close, after-reopen, Leaves}
-use Rattle.daybook.specs.Daybook.{Daybook, Call, archived, waiting, next-out, unwritten, refusal, noted, next, daybook, seal-of, closed-seal-of}
+use Rattle.daybook.specs.Daybook.{Daybook, Call, archived, waiting, unwritten, refusal, noted, next, daybook, seal-of, closed-seal-of}
 use Rattle.daybook.specs.Daybook.Call.{passing, cancelling, shipping, closing, reopening, saving, resuming}
 use Rattle.daybook.specs.Course.{Keeps, Follows, Came, Came-closed, Goes-on}
 use Rattle.daybook.proofs.Chains.{folded-parts, folded-append, folded-chain, cancelled-seal}
-use Rattle.daybook.proofs.Notes.{accepted, refused, pass-refused, cancel-refused, ship-refused, save-refused, pass-keeps, cancel-keeps, ship-keeps, standing-is, oldest-is}
+use Rattle.daybook.proofs.Notes.{accepted, refused, pass-refused, cancel-refused, ship-refused, save-refused, pass-keeps, cancel-keeps, ship-keeps, standing-is}
 
 numbered : (e : Refusal) → number e ≡ 0 → ⊥
-numbered Size h = omega arith
-numbered TooMany h = omega arith
-numbered Bits h = omega arith
-numbered Buffer h = omega arith
-numbered Length h = omega arith
-numbered Full h = omega arith
-numbered Standing h = omega arith
-numbered Serial h = omega arith
-numbered Form h = omega arith
-numbered Price h = omega arith
-numbered Shipped h = omega arith
-numbered Unknown h = omega arith
-numbered Empty h = omega arith
+numbered e h = omega (arith, positive e)
 
 some-waits : (room w : ℕ) → 0 ≡ ship-refusal room w → 0 < w
 some-waits room w e = grind (arith, tells)

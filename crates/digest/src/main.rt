@@ -17,7 +17,6 @@ fn main(rt: LibcRuntime) -> io::Result<()> {
             break;
         }
     }
-    let mut out = [0; 364];
-    let len = summary.report(&mut out);
-    rt.stdout().write_all(&out[0..len])
+    let report = summary.report();
+    rt.stdout().write_all(report.as_slice())
 }

@@ -2,7 +2,7 @@
 use mathlib.Core.Path.{_≡_, refl, sym, ap, _∙_}
 use mathlib.Core.List.{List, [], _∷_, _++_, append-assoc, append-nil}
 use mathlib.Core.Logic.{⊎-elim}
-use Prim.Native.Nat.{ℕ, zero, suc, min, _+_, _-_, _/_, _%_, _≤_, _<_}
+use Prim.Native.Nat.{ℕ, zero, suc, min, _+_, _-_, _*_, _/_, _%_, _≤_, _<_}
 use native.Mathlib.Omega.{arith}
 use native.Mathlib.Nat.{min-eq-left, min-eq-right, suc-add, zero-add}
 use lib.ListN.{length, getD, set, take, length-append}
@@ -69,3 +69,13 @@ text-short n t =
     let within = t .within in
     let l = length-take-le (t .len) (t .bytes) (omega (arith, wide, within)) in
     omega (arith, l, within)
+
+pub length-hex : (xs : List ℕ) → length (hex-of xs) ≡ 2 * length xs
+length-hex [] = refl
+length-hex (x ∷ xs) = let h = length-hex xs in omega (arith, h)
+
+-- the whole of two parts, where both fit
+pub two-parts : (n : ℕ) (w x y a b : List ℕ) → w ≡ [] → x ≡ take n (w ++ a) → y ≡ take n (x ++ b) → length a + length b ≤ n → y ≡ a ++ b
+two-parts n w x y a b e f g h =
+    let l = length-append a b in
+    then-part n w x y a b f g ∙ ap (λ v. take n (v ++ (a ++ b))) e ∙ take-all n (a ++ b) (omega (arith, l, h))

@@ -3,7 +3,6 @@ use mathlib.Core.Path.{_≡_}
 use mathlib.Core.List.{List}
 use mathlib.Core.Bool.{true}
 use Prim.Native.Nat.{ℕ, _^_, _<_}
-use lib.ListN.{length}
 use Rattle.bytes.specs.Bytes.{Bytes}
 use Rattle.passages.specs.Fields.{serial-of, formed, priced, zeroed, fits-after}
 use Rattle.refusals.specs.Refusals.{next-refusal}

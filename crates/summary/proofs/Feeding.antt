@@ -17,7 +17,8 @@ use Rattle.refusals.specs.Refusals.{outcome, feed-refusal}
 use Rattle.jh_digest.specs.Stands.{Feeds}
 use Rattle.jh_digest.specs.declared.feeder.JhFeeder.{JhFeeder}
 use Rattle.summary.specs.Fed.{Holds}
-use Rattle.summary.proofs.Accepted.{number-positive, accepted}
+use Rattle.refusals.proofs.Numbers.{positive}
+use Rattle.summary.proofs.Accepted.{accepted}
 
 -- a message that has not passed the limit had not before
 pub before-passed : (m x : List ℕ) → ltb (2 ^ 40) (length (m ++ x)) ≡ false → ltb (2 ^ 40) (length m) ≡ false
@@ -31,7 +32,7 @@ refused-is : {T : Type 0} (r : Result T Refusal) (b : Bool) → outcome r ≡ co
 refused-is (Ok x) true e = absurd (let no : ⊥ = omega arith in no)
 refused-is (Ok x) false e = refl
 refused-is (Err d) true e = refl
-refused-is (Err d) false e = absurd (let no : ⊥ = omega (arith, number-positive d) in no)
+refused-is (Err d) false e = absurd (let no : ⊥ = omega (arith, positive d) in no)
 
 module _ {P T : Type 0} (image : P → List ℕ → List ℕ) (p : P) (m x : List ℕ) (s : DigestSize) (f h : JhFeeder P) (r : Result T Refusal)
     (held : Holds image p m s f) (answer : outcome r ≡ feed-refusal (f .feeder .state .count) (length x)) where

@@ -1,4 +1,3 @@
-mod Puts
 mod Accepted
 mod Feeding
 mod Reported

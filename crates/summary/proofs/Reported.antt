@@ -1,13 +1,14 @@
 -- The report of a message, line by line.
 use mathlib.Core.Path.{_≡_, refl, sym, ap, ap₂, subst, _∙_}
 use mathlib.Core.Bool.{Bool, true, false}
-use mathlib.Core.List.{List, _++_}
-use Prim.Native.Nat.{ℕ, _+_, _-_, _/_, _^_, _≤_}
+use mathlib.Core.List.{List, [], _∷_, _++_}
+use Prim.Native.Nat.{ℕ, _+_, _-_, _*_, _/_, _^_, _≤_}
 use native.Mathlib.Nat.{zero-add}
 use native.Mathlib.Omega.{arith}
 use lib.Dec.{ltb, lit≤}
 use lib.ListN.{length, take, drop}
-use Rattle.std.proofs.shelf.Lists.{length-append, length-drop, take-at}
+use Rattle.std.specs.Written.{digits, decimal}
+use Rattle.std.proofs.shelf.Lists.{length-append, length-drop, take-at, take-all}
 use Rattle.std.proofs.shelf.Tests.{cond-true, cond-false}
 use Rattle.std.specs.Results.{Cases}
 use Rattle.std.specs.declared.result.Result.{Result}
@@ -16,16 +17,16 @@ use Rattle.refusals.specs.declared.size.DigestSize.{DigestSize}
 use Rattle.refusals.specs.declared.size.DigestSize.the-variants.{D224, D256, D384, D512}
 use Rattle.refusals.specs.Sizes.{bits-in}
 use Rattle.refusals.specs.Refusals.{outcome, buffer-refusal}
+use Rattle.fields.specs.Hex.{hex-of}
+use Rattle.fields.proofs.Texts.{then-part}
 use Rattle.jh.specs.Message.{bits-of}
 use Rattle.jh.specs.Jh.{jh, jh-over, Means-E8}
 use Rattle.jh.proofs.Means.{means-jh}
 use Rattle.jh_digest.specs.Stands.{Writes}
 use Rattle.jh_digest.specs.declared.feeder.JhFeeder.{JhFeeder}
 use Rattle.summary.specs.Fed.{Holds}
-use Rattle.summary.specs.Text.{line, Puts}
-use Rattle.summary.specs.Report.{refusal-line, report-of, Reports, Lines}
+use Rattle.summary.specs.Report.{refusal-line, line, report-of, Adds}
 use Rattle.summary.proofs.Accepted.{accepted}
-use Rattle.summary.proofs.Puts.{puts-both}
 
 -- 64 bytes hold a digest of any size
 enough : (s : DigestSize) → buffer-refusal 64 (bits-in s / 8) ≡ 0
@@ -39,6 +40,17 @@ small D224 = lit≤ tt
 small D256 = lit≤ tt
 small D384 = lit≤ tt
 small D512 = lit≤ tt
+
+pub three-digits : (s : DigestSize) → length (decimal (bits-in s)) ≡ 3
+unfolding digits
+three-digits D224 = refl
+three-digits D256 = refl
+three-digits D384 = refl
+three-digits D512 = refl
+
+length-hex : (xs : List ℕ) → length (hex-of xs) ≡ 2 * length xs
+length-hex [] = refl
+length-hex (x ∷ xs) = omega (arith, length-hex xs)
 
 -- a feeder that is finished into 64 bytes writes the whole digest, and that has as many bytes as its size
 module _ {P : Type 0} (image : P → List ℕ → List ℕ) (p : P) (m : List ℕ) (s : DigestSize) (f : JhFeeder P) (held : Holds image p m s f) where
@@ -57,35 +69,32 @@ module _ {P : Type 0} (image : P → List ℕ → List ℕ) (p : P) (m : List �
       let l : length digest ≡ bits-in s / 8 = omega (arith, small s, ap length e, length-append digest (drop (bits-in s / 8) z), length-drop (bits-in s / 8) z) in
       (l, ap (take (bits-in s / 8)) e ∙ take-at digest (drop (bits-in s / 8) z) (bits-in s / 8) l)
 
-pub reports-from : (x : List ℕ) (n : ℕ) (old new : List ℕ) → n ≡ length x → Puts x 0 old new → Reports x n old new
-reports-from x n old new e p = record { count = e; after = p ∙ ap (λ (k : ℕ). x ++ drop k old) (zero-add (length x)) }
-
+-- the parts of a line, and of the whole report, one after the other
 module _ (digest : ℕ → List Bool → List ℕ) (m : List ℕ) where
-  abbrev at : ℕ → List ℕ
-  at size = line size (digest size (bits-of m))
+  pub length-line : (size : ℕ) → length (decimal size) ≡ 3 → length (digest size (bits-of m)) ≡ size / 8 → length (line digest size m) ≡ 2 * (size / 8) + 5
+  length-line size e f =
+      let x : List ℕ = hex-of (digest size (bits-of m)) in
+      omega (arith, length-append (decimal size) (9 ∷ (x ++ (10 ∷ []))), length-append x (10 ∷ []), length-hex (digest size (bits-of m)))
 
   pub passed-report : ltb (2 ^ 40) (length m) ≡ true → report-of digest m ≡ refusal-line
   unfolding report-of
-  passed-report e = cond-true (ltb (2 ^ 40) (length m)) refusal-line (at 224 ++ (at 256 ++ (at 384 ++ at 512))) e
+  passed-report e = cond-true (ltb (2 ^ 40) (length m)) refusal-line (line digest 224 m ++ (line digest 256 m ++ (line digest 384 m ++ line digest 512 m))) e
 
-  -- four lines, each behind the one before
-  pub four-lines : (o a b c d : List ℕ) (i j k n : ℕ) → length o ≡ 364 → length a ≡ 364 → length b ≡ 364
-      → i ≡ 61 → j ≡ i + 69 → k ≡ j + 101 → n ≡ k + 133 → ltb (2 ^ 40) (length m) ≡ false
-      → Lines digest 224 m 0 o a → Lines digest 256 m i a b → Lines digest 384 m j b c → Lines digest 512 m k c d
-      → Reports (report-of digest m) n o d
+  pub four-lines : (o a b c d : List ℕ) → o ≡ [] → ltb (2 ^ 40) (length m) ≡ false
+      → Adds digest 224 m o a → Adds digest 256 m a b → Adds digest 384 m b c → Adds digest 512 m c d → d ≡ report-of digest m
   unfolding report-of
-  four-lines o a b c d i j k n lo la lb ei ej ek en e p q r s =
-      let lp = p .long in
-      let lq = q .long in
-      let lr = r .long in
-      let ls = s .long in
-      let rs = puts-both (at 384) (at 512) j k b c d (omega arith) (omega arith) (r .puts) (s .puts) in
-      let qs = puts-both (at 256) (at 384 ++ at 512) i j a b d (omega arith) (omega arith) (q .puts) rs in
-      let ps = puts-both (at 224) (at 256 ++ (at 384 ++ at 512)) 0 i o a d (omega arith) (omega arith) (p .puts) qs in
-      let l : n ≡ length (at 224 ++ (at 256 ++ (at 384 ++ at 512))) =
-      omega (arith, length-append (at 224) (at 256 ++ (at 384 ++ at 512)), length-append (at 256) (at 384 ++ at 512), length-append (at 384) (at 512)) in
-      subst (λ (x : List ℕ). Reports x n o d) (sym (cond-false (ltb (2 ^ 40) (length m)) refusal-line (at 224 ++ (at 256 ++ (at 384 ++ at 512))) e))
-      (reports-from (at 224 ++ (at 256 ++ (at 384 ++ at 512))) n o d l ps)
+  four-lines o a b c d z e p q r s =
+      let l1 : List ℕ = line digest 224 m in
+      let l2 : List ℕ = line digest 256 m in
+      let l3 : List ℕ = line digest 384 m in
+      let l4 : List ℕ = line digest 512 m in
+      let all : List ℕ = l1 ++ (l2 ++ (l3 ++ l4)) in
+      let n : length all ≤ 364 =
+      omega (arith, p .long, q .long, r .long, s .long, length-append l1 (l2 ++ (l3 ++ l4)), length-append l2 (l3 ++ l4), length-append l3 l4) in
+      then-part 364 o a d l1 (l2 ++ (l3 ++ l4)) (p .text) (then-part 364 a b d l2 (l3 ++ l4) (q .text) (then-part 364 b c d l3 l4 (r .text) (s .text)))
+      ∙ ap (λ (w : List ℕ). take 364 (w ++ all)) z
+      ∙ take-all 364 all n
+      ∙ sym (cond-false (ltb (2 ^ 40) (length m)) refusal-line all e)
 
 -- over a permutation that means E8, the report of JH
 pub report-jh : (f : List ℕ → List ℕ) → Means-E8 f → (m : List ℕ) → report-of (jh-over f) m ≡ report-of jh m

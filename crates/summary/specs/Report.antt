@@ -5,26 +5,26 @@ use mathlib.Core.List.{List, [], _∷_, _++_}
 use Prim.Native.Nat.{ℕ, _+_, _*_, _/_, _^_}
 use lib.Chars.{codes}
 use lib.Dec.{ltb}
-use lib.ListN.{length, drop}
+use lib.ListN.{length, take}
+use Rattle.std.specs.Written.{decimal}
+use Rattle.fields.specs.Hex.{hex-of}
 use Rattle.jh.specs.Message.{bits-of}
-use Rattle.summary.specs.Text.{line, Puts}
 
 -- "refused", a tab, the number 2 and a line feed
 abbrev pub refusal-line : List ℕ
 refusal-line = codes "refused" ++ (9 ∷ (50 ∷ (10 ∷ [])))
 
--- the report of a message in bytes, by what `digest` gives of a size and a message in bits
-unfoldable pub report-of : (digest : ℕ → List Bool → List ℕ) → List ℕ → List ℕ
-report-of digest m =
-    let at : ℕ → List ℕ = λ size. line size (digest size (bits-of m)) in
-    cond (ltb (2 ^ 40) (length m)) refusal-line (at 224 ++ (at 256 ++ (at 384 ++ at 512)))
+-- what `digest` gives of a size and a message in bits
+module _ (digest : ℕ → List Bool → List ℕ) where
+  -- the size, a tab, the digest in hexadecimal digits, and a line feed
+  abbrev pub line : ℕ → List ℕ → List ℕ
+  line size m = decimal size ++ (9 ∷ (hex-of (digest size (bits-of m)) ++ (10 ∷ [])))
 
--- n bytes of text came to the front of a buffer, and the rest of the buffer stayed
-pub record Reports (text : List ℕ) (n : ℕ) (old new : List ℕ) : Type 0 where
-  pub count : n ≡ length text
-  pub after : new ≡ text ++ drop (length text) old
+  -- the report of a message in bytes
+  unfoldable pub report-of : List ℕ → List ℕ
+  report-of m = cond (ltb (2 ^ 40) (length m)) refusal-line (line 224 m ++ (line 256 m ++ (line 384 m ++ line 512 m)))
 
--- the line of one size, which has as many digits as the size, came into a buffer at a place
-pub record Lines (digest : ℕ → List Bool → List ℕ) (size : ℕ) (m : List ℕ) (at : ℕ) (old new : List ℕ) : Type 0 where
-  pub long : length (line size (digest size (bits-of m))) ≡ 2 * (size / 8) + 5
-  pub puts : Puts (line size (digest size (bits-of m))) at old new
+  -- the line of one size, with a digit for each four bits, came to the end of a text that takes 364 bytes
+  pub record Adds (size : ℕ) (m : List ℕ) (before after : List ℕ) : Type 0 where
+    pub long : length (line size m) ≡ 2 * (size / 8) + 5
+    pub text : after ≡ take 364 (before ++ line size m)

@@ -4,7 +4,7 @@ use mathlib.Core.Bool.{true}
 use mathlib.Core.List.{List}
 use Prim.Native.Nat.{ℕ}
 use native.Mathlib.Omega.{arith}
-use lib.ListN.{length, take, drop}
+use lib.ListN.{drop}
 use Rattle.std.proofs.shelf.Lists.{take-all, length-drop}
 use Rattle.bytes.specs.Bytes.{Bytes}
 use Rattle.passages.specs.Fields.{tag-of, zeroed}

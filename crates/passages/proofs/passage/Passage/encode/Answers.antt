@@ -1,12 +1,10 @@
 use borrow.Author.Needs.{needs}
-use mathlib.Core.Path.{_≡_, refl, sym, ap, ap₂, subst, _∙_}
+use mathlib.Core.Path.{_≡_, refl, ap₂, _∙_}
 use mathlib.Core.List.{List, [], _∷_, _++_}
 use lib.ListN.{length, replicate}
-use native.Mathlib.Omega.{arith}
 use Prim.Native.Nat.{ℕ, _+_, _-_}
-use Rattle.std.proofs.shelf.Lists.{length-append}
-use Rattle.bytes.specs.Bytes.{Bytes, big-endian}
-use Rattle.passages.specs.Coding.{put-at, encoded}
+use Rattle.bytes.specs.Bytes.{big-endian}
+use Rattle.passages.specs.Coding.{put-at}
 use Rattle.passages.proofs.Encodings.{put-next, four, eight, joined-parts}
 use Rattle.passages.proofs.passage.Passage.encode.Needs as need
 

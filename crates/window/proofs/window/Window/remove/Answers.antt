@@ -1,10 +1,9 @@
 use mathlib.Core.Path.{_≡_, refl, ap, sym, _∙_}
 use native.Mathlib.Omega.{arith}
-use Prim.Native.Nat.{_+_, _-_}
-use lib.ListN.{length}
+use Prim.Native.Nat.{_-_}
 use Rattle.passages.specs.Coding.{encoded}
 use Rattle.passages.specs.Rows.{encoded-all}
-use Rattle.window.proofs.Shifts.{Moved, moved-none, moved-more, moved-all, map-removed}
+use Rattle.window.proofs.Shifts.{moved-none, moved-more, moved-all, map-removed}
 use Rattle.window.proofs.Held.{blank, at, length-listed}
 use Rattle.window.proofs.window.Window.remove.Needs as need
 

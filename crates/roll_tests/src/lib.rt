@@ -1,0 +1,7 @@
+// Tests of rolls.
+#[cfg(test)]
+mod calls;
+#[cfg(test)]
+mod samples;
+#[cfg(test)]
+mod texts;

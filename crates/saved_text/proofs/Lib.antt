@@ -1,0 +1,4 @@
+pub mod Unfit
+pub mod Turns
+pub mod Laws
+pub mod Parts

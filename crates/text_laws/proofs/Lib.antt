@@ -1,0 +1,12 @@
+pub mod Inverts
+pub mod Cuts
+pub mod Fields
+pub mod Lines
+pub mod Numbers
+pub mod Forth
+pub mod Back
+pub mod FirstLines
+pub mod Depends
+pub mod Fillers
+pub mod Begins
+pub mod Long
