@@ -1,4 +1,6 @@
 // The functions that the benchmark calls from C.
+#![tactic(auto)]
+
 mod digests;
 mod states;
 

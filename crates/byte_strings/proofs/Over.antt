@@ -1,6 +1,6 @@
 -- A list that is written over by another, the first n places so far.
 use Rattle.std.proofs.Common.{◌≡◌, ℕ, ◌+◌, ◌-◌, ◌<◌, ◌≤◌, List, [], ◌∷◌, ◌++◌, length, get_or, take, drop, set, sym, ap, ◌∙◌, ap₂, arith}
-use Rattle.std.proofs.lemmas.List.{take_more, drop_more, set_at, get_or_append_right, length-take-le, get_or-drop, take_all, drop_all, append-nil, append_assoc}
+use Rattle.std.proofs.lemmas.List.{take_more, drop_more, set_at, get_or-append_right, length-take-le, get_or-drop, take_all, drop_all, append-nil, append_assoc}
 
 abbrev pub over : ℕ → List ℕ → List ℕ → List ℕ
 over n s d = take n s ++ drop n d
@@ -13,7 +13,7 @@ pub over_at : (n : ℕ) (s d : List ℕ) (k : ℕ) → length s ≡ length d →
 over_at n s d k e l h =
     let b : n ≤ length s = omega arith in
     let i : n + (k - n) ≡ k = omega arith in
-    get_or_append_right (take n s) (drop n d) n k 0 (length-take-le n s b) l ∙ get_or-drop n d (k - n) 0 ∙ ap (λ (x : ℕ). get_or d x 0) i
+    get_or-append_right (take n s) (drop n d) n k 0 (length-take-le n s b) l ∙ get_or-drop n d (k - n) 0 ∙ ap (λ (x : ℕ). get_or d x 0) i
 
 -- one place more
 pub over_more : (n : ℕ) (s d : List ℕ) → length s ≡ length d → n < length d → set (over n s d) n (get_or s n 0) ≡ over (n + 1) s d

@@ -1,4 +1,6 @@
 // Byte strings, and the exclusive or of one into another.
+#![tactic(auto)]
+
 ghost use Rattle.std.specs.Prelude.{◌≡◌};
 ghost use Rattle.byte_strings.specs.Bytes.{xored};
 

@@ -1,4 +1,6 @@
 // The call program: requests from standard input, answers to standard output.
+#![tactic(auto)]
+
 ghost use Rattle.std.specs.Prelude.{◌≤◌, length, IfOk};
 
 use drill_press::Drill;

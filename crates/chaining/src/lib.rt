@@ -1,4 +1,6 @@
 // What the JH press and the drill press share: a block in one half of a chain value, the size as a chain value, the ending block.
+#![tactic(auto)]
+
 ghost use Rattle.std.specs.Prelude.{◌≡◌};
 ghost use Rattle.jh.specs.Compression.{low, high, size_bytes, ending_block};
 ghost use Rattle.refusals.specs.Sizes.{bits_in};

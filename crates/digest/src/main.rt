@@ -1,4 +1,6 @@
 // Prints the JH digests of standard input: a line `SIZE<tab>hexadecimal digits` for each of the four sizes, or `refused<tab>2` past 2^40 bytes.
+#![tactic(auto)]
+
 use sliced::Sliced;
 use std::io;
 use std::io::{Read, Write};

@@ -1,4 +1,6 @@
 // The drill press, which seals the rolls of crew exercises: it rotates the chain value by one byte and masks the block in.
+#![tactic(auto)]
+
 ghost use Rattle.std.specs.Prelude.{◌≡◌};
 ghost use Rattle.jh.specs.Compression.{size_bytes, ending_block};
 ghost use Rattle.drill_press.specs.Drill.{stepped, stepped_back};

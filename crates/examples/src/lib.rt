@@ -1,4 +1,6 @@
 // Worked examples, computed from the definitions: one table, proved as one theorem.
+#![tactic(auto)]
+
 ghost use Rattle.transcript.specs.Output.{Added};
 ghost use Rattle.examples.specs.Rolls.{drill_answers};
 ghost use Rattle.examples.specs.Examples.{WorkedExamples};

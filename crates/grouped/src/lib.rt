@@ -1,4 +1,6 @@
 // The JH permutation on elements of four bits, one to a byte: E8 and its inverse.
+#![tactic(auto)]
+
 mod constants;
 mod e8;
 mod grouping;

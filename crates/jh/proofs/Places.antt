@@ -1,6 +1,6 @@
 -- Where a round takes its elements from, place by place, over any number of fours.
 use Rattle.std.proofs.Common.{◌≡◌, ℕ, zero, suc, ◌+◌, ◌-◌, ◌*◌, ◌/◌, ◌%◌, ◌^◌, ◌<◌, ◌≤◌, Bool, true, false, cond, not, T, eqb, ltb, List, [], ◌∷◌, ◌++◌, length, get_or, sym, refl, ap, ◌∙◌, subst, ap₂, le_of_suc-le-suc, not-suc-le-zero, arith, ltb→lt, nltb→le, length-append}
-use Rattle.std.proofs.lemmas.List.{get_or_append_left, get_or_append_right}
+use Rattle.std.proofs.lemmas.List.{get_or_append_left, get_or-append_right}
 use Rattle.jh.specs.Round.{sbox, first, second, boxed, paired, substitute, mix, turn, evens, odds, swapped, permute, round}
 
 -- a list of m fours
@@ -112,7 +112,7 @@ even_by {w} {m} f j h false e =
     let k : ℕ = j - m in
     let i : 2 * j - 2 * m ≡ 2 * k = omega arith in
     let n : 2 * (2 * k + 1) ≡ suc (suc (4 * k)) = omega arith in
-    get_or_append_right (front w) (back w) (2 * m) (2 * j) 0 (front_long f) (omega arith) ∙ ap (λ (x : ℕ). get_or (back w) x 0) i
+    get_or-append_right (front w) (back w) (2 * m) (2 * j) 0 (front_long f) (omega arith) ∙ ap (λ (x : ℕ). get_or (back w) x 0) i
     ∙ (back_at f k (omega arith)).0 ∙ ap (λ (x : ℕ). get_or w x 0) (sym n)
 
 odd_by : {w : List ℕ} {m : ℕ} → Fours w m → (j : ℕ) → j < 2 * m → (b : Bool) → ltb j m ≡ b
@@ -129,7 +129,7 @@ odd_by {w} {m} f j h false e =
     let k : ℕ = j - m in
     let i : 2 * j + 1 - 2 * m ≡ suc (2 * k) = omega arith in
     let n : 2 * (2 * k) + 1 ≡ suc (4 * k) = omega arith in
-    get_or_append_right (front w) (back w) (2 * m) (2 * j + 1) 0 (front_long f) (omega arith) ∙ ap (λ (x : ℕ). get_or (back w) x 0) i
+    get_or-append_right (front w) (back w) (2 * m) (2 * j + 1) 0 (front_long f) (omega arith) ∙ ap (λ (x : ℕ). get_or (back w) x 0) i
     ∙ (back_at f k (omega arith)).1 ∙ ap (λ (x : ℕ). get_or w x 0) (sym n)
 
 left_below : (m j : ℕ) → j < 2 * m → left m j < 2 * m

@@ -1,4 +1,6 @@
 // JH as its public report defines it, in specs/, and what is proved about the definitions alone.
+#![tactic(auto)]
+
 ghost use Rattle.jh.specs.Laws.{BoxesUndone, LUndone, PermuteUndone, RoundUndone, E8Undone, C0Root};
 ghost use Rattle.jh.specs.Message.{WholeBlocks};
 

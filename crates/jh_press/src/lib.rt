@@ -1,4 +1,6 @@
 // The JH press: the compression function of JH over any permutation of 1,024 bits; with E8 it is F8.
+#![tactic(auto)]
+
 ghost use Rattle.std.specs.Prelude.{◌≡◌};
 ghost use Rattle.jh.specs.Compression.{compress, uncompress, opening_over, ending_block};
 ghost use Rattle.refusals.specs.Sizes.{bits_in};

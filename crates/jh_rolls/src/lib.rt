@@ -1,4 +1,6 @@
 // Rolls over the JH press: a closed roll's digest is JH of its standing passages joined in order.
+#![tactic(auto)]
+
 ghost use Rattle.std.specs.Prelude.{◌≡◌, ℕ, ◌/◌, List, ◌++◌, length, drop, IfOk, OnOk};
 ghost use Rattle.refusals.specs.Refusals.{outcome, buffer_refusal};
 ghost use Rattle.jh.specs.Jh.{MeansE8};

@@ -1,4 +1,6 @@
 // A permutation of 1,024 bits, as 128 bytes: forth, and back.
+#![tactic(auto)]
+
 ghost use Rattle.std.specs.Prelude.{◌≡◌, List, ℕ};
 ghost use Rattle.byte_strings.specs.Bytes.{Bytes};
 

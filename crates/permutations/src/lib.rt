@@ -1,4 +1,6 @@
 // The two forms of the permutation E8, on elements of four bits and bit-sliced, answer alike.
+#![tactic(auto)]
+
 ghost use Rattle.std.specs.Prelude.{◌≡◌};
 ghost use Rattle.jh.specs.Permutation.{e8};
 ghost use Rattle.jh.specs.Inverse.{e8⁻¹};

@@ -1,4 +1,6 @@
 // A press: a keyless compression function over chain values of 128 bytes and blocks of 64, with its way back.
+#![tactic(auto)]
+
 ghost use Rattle.std.specs.Prelude.{◌≡◌, List, ℕ};
 ghost use Rattle.byte_strings.specs.Bytes.{Bytes};
 ghost use Rattle.refusals.specs.Sizes.{bits_in};

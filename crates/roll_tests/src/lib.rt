@@ -1,4 +1,6 @@
 // Tests of rolls.
+#![tactic(auto)]
+
 #[cfg(test)]
 mod calls;
 #[cfg(test)]

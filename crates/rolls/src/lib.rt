@@ -1,4 +1,6 @@
 // Rolls: sealed rows of passages, over any press.
+#![tactic(auto)]
+
 mod chain;
 mod closed;
 mod open;

@@ -1,4 +1,6 @@
 // The saved text of a roll: read back line by line, and written.
+#![tactic(auto)]
+
 mod head;
 mod line;
 pub mod reading;

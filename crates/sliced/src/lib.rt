@@ -1,4 +1,6 @@
 // JH's permutation E8 on eight words of 128 bits, all elements of one parity at once.
+#![tactic(auto)]
+
 mod rounds;
 mod slices;
 mod state;

@@ -1,4 +1,6 @@
 // The round constants of the bit-sliced permutation, as a table.
+#![tactic(auto)]
+
 ghost use Rattle.std.specs.Prelude.{◌%◌, ◌<◌};
 ghost use Rattle.sliced_constants.specs.Constants.{IsConstant, IsRow};
 

@@ -1,4 +1,6 @@
 // The laws of saved texts, as contracts that the check asks for.
+#![tactic(auto)]
+
 ghost use Rattle.text_laws.specs.Laws.{SavedReads, ReadSaves, RefusedStands};
 
 // A text is accepted exactly if it is the text of a valid roll, and reads as that roll.

@@ -1,4 +1,6 @@
 // A text of requests, and the text of their answers.
+#![tactic(auto)]
+
 ghost use Rattle.std.specs.Prelude.{◌≡◌, List};
 ghost use Rattle.answers.specs.Said.{said, line_of};
 ghost use Rattle.sessions.specs.Courses.{by_name};

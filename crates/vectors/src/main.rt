@@ -1,4 +1,6 @@
 // Compares our code with values from outside: prints how many of each group are equal, and each line that differs.
+#![tactic(auto)]
+
 mod constants;
 mod digests;
 mod hex;
