@@ -34,7 +34,7 @@ fn digest_of_bytes<P: Permutation>(
     message: &[u8],
     out: &mut [u8],
 ) -> u32
-    requires { MeansE8 (image press.now.permutation) }
+    requires { MeansE8 (P.image press.now.permutation) }
     ensures answer { result ≡ refusal size message.now out.old }
     ensures written { out.new ≡ digested size message.now out.old }
 {

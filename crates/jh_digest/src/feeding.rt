@@ -17,7 +17,7 @@ use refusals::size::DigestSize;
 impl<P: Permutation> JhFeeder<P> {
     // A feeder of the empty message, for digests of the size.
     pub fn new(press: JhPress<P>, size: DigestSize) -> Self
-        ensures { Starts image press size result }
+        ensures { Starts P.image press size result }
     {
         JhFeeder {
             feeder: Feeder::new(press, size),
@@ -27,7 +27,7 @@ impl<P: Permutation> JhFeeder<P> {
     // A feeder of the empty message, for digests of `size` bits; refuses a size that is none of the four, and hands the press back.
     pub fn start(press: JhPress<P>, size: u32) -> Result<Self, Declined<JhPress<P>>>
         ensures answer { is_ok result ≡ is_size size }
-        ensures after { MatchResult result (λ f. Starts image press f.feeder.size f × (bits_in f.feeder.size ≡ size)) (λ d. (d.press ≡ press) × (d.refusal ≡ Refusal.Size)) }
+        ensures after { MatchResult result (λ f. Starts P.image press f.feeder.size f × (bits_in f.feeder.size ≡ size)) (λ d. (d.press ≡ press) × (d.refusal ≡ Refusal.Size)) }
     {
         Ok(JhFeeder {
             feeder: Feeder::start(press, size)?,
@@ -37,7 +37,7 @@ impl<P: Permutation> JhFeeder<P> {
     // Puts bytes at the end of the message; refuses, and leaves the feeder as it is, where the message would pass 2^40 bytes.
     pub fn feed(&mut self, bytes: &[u8]) -> Result<(), Refusal>
         ensures answer { outcome result ≡ feed_refusal self.old.feeder.state.count (length bytes.now) }
-        ensures after { MatchResult result (λ _. Feeds image bytes.now self.old self.new) (λ _. self.new ≡ self.old) }
+        ensures after { MatchResult result (λ _. Feeds P.image bytes.now self.old self.new) (λ _. self.new ≡ self.old) }
     {
         self.feeder.feed(bytes)
     }
@@ -46,7 +46,7 @@ impl<P: Permutation> JhFeeder<P> {
     // refuses, and leaves the feeder as it is, where the message would pass 2^40 bytes.
     pub fn feed_all(&mut self, parts: &[&[u8]]) -> Result<(), Refusal>
         ensures answer { outcome result ≡ feed_refusal self.old.feeder.state.count (length (flat_map (λ x. x.now) parts.now)) }
-        ensures after { MatchResult result (λ _. Feeds image (flat_map (λ x. x.now) parts.now) self.old self.new) (λ _. self.new ≡ self.old) }
+        ensures after { MatchResult result (λ _. Feeds P.image (flat_map (λ x. x.now) parts.now) self.old self.new) (λ _. self.new ≡ self.old) }
     {
         self.feeder.feed_all(parts)
     }
@@ -55,9 +55,9 @@ impl<P: Permutation> JhFeeder<P> {
     // over a permutation that means E8, the digest is JH's. Refuses a buffer that is too short, and leaves all as it is.
     pub fn finish(&mut self, out: &mut [u8]) -> Result<(), Refusal>
         ensures answer { outcome result ≡ buffer_refusal (length out.old) (bits_in self.old.feeder.size / 8) }
-        ensures written { MatchResult result (λ _. Writes image (jh_over (image self.old.feeder.press.permutation)) self.old out.old out.new) (λ _. out.new ≡ out.old) }
-        ensures jh { MeansE8 (image self.old.feeder.press.permutation) → OnOk result (Writes image jh self.old out.old out.new) }
-        ensures after { MatchResult result (λ _. Starts image self.old.feeder.press self.old.feeder.size self.new) (λ _. self.new ≡ self.old) }
+        ensures written { MatchResult result (λ _. Writes P.image (jh_over (P.image self.old.feeder.press.permutation)) self.old out.old out.new) (λ _. out.new ≡ out.old) }
+        ensures jh { MeansE8 (P.image self.old.feeder.press.permutation) → OnOk result (Writes P.image jh self.old out.old out.new) }
+        ensures after { MatchResult result (λ _. Starts P.image self.old.feeder.press self.old.feeder.size self.new) (λ _. self.new ≡ self.old) }
     {
         self.feeder.finish(out)
     }

@@ -19,8 +19,8 @@ pub fn digest<P: Permutation>(
     out: &mut [u8],
 ) -> Result<(), Refusal>
     ensures answer { outcome result ≡ digest_refusal size (length bytes.now) bits (length out.old) }
-    ensures written { MatchResult result (λ _. out.new ≡ jh_over (image press.now.permutation) size (take bits (bits_of bytes.now)) ++ drop (size / 8) out.old) (λ _. out.new ≡ out.old) }
-    ensures jh { MeansE8 (image press.now.permutation) → OnOk result (out.new ≡ jh size (take bits (bits_of bytes.now)) ++ drop (size / 8) out.old) }
+    ensures written { MatchResult result (λ _. out.new ≡ jh_over (P.image press.now.permutation) size (take bits (bits_of bytes.now)) ++ drop (size / 8) out.old) (λ _. out.new ≡ out.old) }
+    ensures jh { MeansE8 (P.image press.now.permutation) → OnOk result (out.new ≡ jh size (take bits (bits_of bytes.now)) ++ drop (size / 8) out.old) }
 {
     messages::whole::digest(press, size, bytes, bits, out)
 }

@@ -23,7 +23,7 @@ use rolls::state::ClosedRoll;
 pub fn digest<P: Permutation>(roll: &ClosedRoll<JhPress<P>>, out: &mut [u8]) -> Result<(), Refusal>
     ensures answer { outcome result ≡ buffer_refusal (length out.old) (digest_length (closed_state_of roll.now)) }
     ensures written { Writes result (digest_length (closed_state_of roll.now)) (digest_in (closed_state_of roll.now)) out.old out.new }
-    ensures jh { MeansE8 (image roll.now.press.permutation) → OnOk result ((size : ℕ) (calls : List Call) → CameShut image (closed_state_of roll.now) size calls → out.new ≡ jh_of (daybook size calls) ++ drop (size / 8) out.old) }
+    ensures jh { MeansE8 (P.image roll.now.press.permutation) → OnOk result ((size : ℕ) (calls : List Call) → CameShut P.image (closed_state_of roll.now) size calls → out.new ≡ jh_of (daybook size calls) ++ drop (size / 8) out.old) }
 {
     roll.digest(out)
 }
@@ -36,8 +36,8 @@ pub fn replay_jh<P: Permutation + Copy>(
     requests: &[Request],
     answers: &mut [Answer],
 ) -> Result<Reading, Declined<JhPress<P>>>
-    ensures told { Replays (jh-opens image) (jh-steps image) (jh-ends image) press size requests.now answers.old answers.new result }
-    ensures jh { MeansE8 (image press.permutation) → IfOk result (λ x. TellsJh size requests.now x) }
+    ensures told { Replays (jh-opens P.image) (jh-steps P.image) (jh-ends P.image) press size requests.now answers.old answers.new result }
+    ensures jh { MeansE8 (P.image press.permutation) → IfOk result (λ x. TellsJh size requests.now x) }
 {
     replay(press, size, requests, answers)
 }

@@ -14,7 +14,7 @@ impl Midstate {
     // Takes in the padding of a message of `bits` bits; `last` has its last bits and the one bit.
     pub(crate) fn end<P: Press>(&mut self, press: &P, last: u8, bits: u64)
         requires { self.old.count ≤ 2 ^ 40 }
-        ensures { Takes (steps press.now) (ending last bits) self.old self.new }
+        ensures { Takes (P.steps press.now) (ending last bits) self.old self.new }
     {
         let padding = Padding::new(last, bits);
         self.take_all(press, &padding.bytes[0..padding.len]);

@@ -24,7 +24,7 @@ impl Midstate {
     pub(crate) fn take_front<P: Press>(&mut self, press: &P, bytes: &[u8]) -> usize
         requires { self.old.count + length bytes.now < 2 ^ 64 }
         ensures taken { result ≡ min (length bytes.now) (64 - self.old.count % 64) }
-        ensures after { Takes (steps press.now) (take result bytes.now) self.old self.new }
+        ensures after { Takes (P.steps press.now) (take result bytes.now) self.old self.new }
     {
         let fill = (self.count % 64) as usize;
         let n = bytes.len().min(64 - fill);
@@ -40,7 +40,7 @@ impl Midstate {
     // Takes all of `bytes` in, block by block.
     pub(crate) fn take_all<P: Press>(&mut self, press: &P, bytes: &[u8])
         requires { self.old.count + length bytes.now < 2 ^ 64 }
-        ensures { Takes (steps press.now) bytes.now self.old self.new }
+        ensures { Takes (P.steps press.now) bytes.now self.old self.new }
     {
         let mut at = 0;
         while at < bytes.len() {
@@ -51,7 +51,7 @@ impl Midstate {
     // Takes all parts in, one after the other.
     pub(crate) fn take_parts<P: Press>(&mut self, press: &P, parts: &[&[u8]])
         requires { self.old.count + length (flat_map (λ x. x.now) parts.now) < 2 ^ 64 }
-        ensures { Takes (steps press.now) (flat_map (λ x. x.now) parts.now) self.old self.new }
+        ensures { Takes (P.steps press.now) (flat_map (λ x. x.now) parts.now) self.old self.new }
     {
         for part in parts {
             self.take_all(press, part);

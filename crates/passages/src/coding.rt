@@ -75,7 +75,7 @@ impl Passage {
 
     // Charged plus discount, as whole numbers, is the full price.
     pub fn is_priced(&self) -> bool
-        ensures { result ≡ (self.now.charged + self.now.discount == self.now).full_price }
+        ensures { result ≡ (self.now.charged + self.now.discount == self.now.full_price) }
     {
         self.charged as u64 + self.discount as u64 == self.full_price as u64
     }

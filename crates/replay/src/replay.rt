@@ -13,7 +13,7 @@ use rolls::state::{ClosedRoll, OpenRoll};
 
 // What an open roll tells.
 fn read_open<P: Press>(roll: &OpenRoll<P>) -> Reading
-    ensures { ReadsOpen opens steps (state_of roll.now) result }
+    ensures { ReadsOpen P.opens P.steps (state_of roll.now) result }
 {
     let mut seal = [0; 128];
     let _ = roll.seal(&mut seal);
@@ -22,7 +22,7 @@ fn read_open<P: Press>(roll: &OpenRoll<P>) -> Reading
 
 // What a closed roll tells.
 fn read_closed<P: Press>(roll: &ClosedRoll<P>) -> Reading
-    ensures { ReadsClosed opens steps ends (closed_state_of roll.now) result }
+    ensures { ReadsClosed P.opens P.steps P.ends (closed_state_of roll.now) result }
 {
     let mut digest = [0; 64];
     let _ = roll.digest(&mut digest);
@@ -31,7 +31,7 @@ fn read_closed<P: Press>(roll: &ClosedRoll<P>) -> Reading
 
 // What a roll tells.
 pub fn read<P: Press>(roll: &Roll<P>) -> Reading
-    ensures { ReadsAny opens steps ends roll.now result }
+    ensures { ReadsAny P.opens P.steps P.ends roll.now result }
 {
     match roll {
         Roll::Open(roll) => read_open(roll),
@@ -43,7 +43,7 @@ pub fn read<P: Press>(roll: &Roll<P>) -> Reading
 // The requests one after the other, on a new roll.
 fn run<P: Press + Drop>(roll: OpenRoll<P>, requests: &[Request], answers: &mut [Answer]) -> Roll<P>
     requires { length requests.now ≤ length answers.old }
-    ensures { Runs opens steps ends (state_of roll) requests.now answers.old answers.new result }
+    ensures { Runs P.opens P.steps P.ends (state_of roll) requests.now answers.old answers.new result }
 {
     let mut roll = Roll::Open(roll);
     for i in 0..requests.len() {
@@ -63,7 +63,7 @@ pub fn replay<P: Press + Drop>(
     requests: &[Request],
     answers: &mut [Answer],
 ) -> Result<Reading, Declined<P>>
-    ensures { Replays opens steps ends press size requests.now answers.old answers.new result }
+    ensures { Replays P.opens P.steps P.ends press size requests.now answers.old answers.new result }
 {
     if answers.len() < requests.len() {
         return Err(Declined {

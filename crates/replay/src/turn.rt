@@ -43,19 +43,19 @@ fn ship_into<P: Press>(
 }
 
 fn pass<P: Press>(roll: &mut OpenRoll<P>, passage: &[u8]) -> Answer
-    ensures { Answers opens steps (state_of roll.old) (passing passage.now) (λ _. Answer.Done) result (state_of roll.new) }
+    ensures { Answers P.opens P.steps (state_of roll.old) (passing passage.now) (λ _. Answer.Done) result (state_of roll.new) }
 {
     told(roll.pass(passage))
 }
 
 fn cancel<P: Press>(roll: &mut OpenRoll<P>, serial: u32) -> Answer
-    ensures { Answers opens steps (state_of roll.old) (cancelling serial) (λ _. Answer.Done) result (state_of roll.new) }
+    ensures { Answers P.opens P.steps (state_of roll.old) (cancelling serial) (λ _. Answer.Done) result (state_of roll.new) }
 {
     told(roll.cancel(serial))
 }
 
 fn ship<P: Press>(roll: &mut OpenRoll<P>, room: usize) -> Answer
-    ensures { Answers opens steps (state_of roll.old) (shipping room) (λ d. Answer.Shipped (next_out d)) result (state_of roll.new) }
+    ensures { Answers P.opens P.steps (state_of roll.old) (shipping room) (λ d. Answer.Shipped (next_out d)) result (state_of roll.new) }
 {
     let mut block = [0; 64];
     match ship_into(roll, room, &mut block) {
@@ -87,7 +87,7 @@ fn save<P: Press>(roll: &OpenRoll<P>, room: usize) -> Result<SavedText, Refusal>
 
 // A save, and the answer to it.
 fn save_turn<P: Press>(roll: OpenRoll<P>, room: usize) -> (Roll<P>, Answer)
-    ensures { Turns opens steps ends (state_of roll) (λ size calls. turn_open size calls (Request.Save room)) result.0 result.1 }
+    ensures { Turns P.opens P.steps P.ends (state_of roll) (λ size calls. turn_open size calls (Request.Save room)) result.0 result.1 }
 {
     match save(&roll, room) {
         Ok(text) => {
@@ -120,20 +120,20 @@ fn resume_new<P: Press + Drop>(roll: OpenRoll<P>, text: &SavedText) -> OpenRoll<
 }
 
 fn close_turn<P: Press>(roll: OpenRoll<P>) -> (Roll<P>, Answer)
-    ensures { Turns opens steps ends (state_of roll) (λ size calls. turn_open size calls Request.Close) result.0 result.1 }
+    ensures { Turns P.opens P.steps P.ends (state_of roll) (λ size calls. turn_open size calls Request.Close) result.0 result.1 }
 {
     (Roll::Closed(roll.close()), Answer::Done)
 }
 
 fn reopen_turn<P: Press>(roll: ClosedRoll<P>) -> (Roll<P>, Answer)
-    ensures { TurnsClosed opens steps ends (closed_state_of roll) (λ size calls. turn_shut size calls Request.Reopen) result.0 result.1 }
+    ensures { TurnsClosed P.opens P.steps P.ends (closed_state_of roll) (λ size calls. turn_shut size calls Request.Reopen) result.0 result.1 }
 {
     (Roll::Open(roll.reopen()), Answer::Done)
 }
 
 // A request to an open roll.
 fn turn_open<P: Press>(mut roll: OpenRoll<P>, request: &Request) -> (Roll<P>, Answer)
-    ensures { Turns opens steps ends (state_of roll) (λ size calls. turn_open size calls request.now) result.0 result.1 }
+    ensures { Turns P.opens P.steps P.ends (state_of roll) (λ size calls. turn_open size calls request.now) result.0 result.1 }
 {
     match request {
         Request::Close => close_turn(roll),
@@ -161,7 +161,7 @@ fn turn_saved<P: Press + Drop>(
     text: SavedText,
     request: &Request,
 ) -> (Roll<P>, Answer)
-    ensures { read_text (text_in text) ≡ Ok (saved_of (state_of roll)) → Turns opens steps ends (state_of roll) (λ size calls. turn_kept size calls request.now) result.0 result.1 }
+    ensures { read_text (text_in text) ≡ Ok (saved_of (state_of roll)) → Turns P.opens P.steps P.ends (state_of roll) (λ size calls. turn_kept size calls request.now) result.0 result.1 }
 {
     match request {
         Request::Resume => (Roll::Open(resume_new(roll, &text)), Answer::Done),
@@ -172,7 +172,7 @@ fn turn_saved<P: Press + Drop>(
 
 // A request to a closed roll.
 fn turn_closed<P: Press>(roll: ClosedRoll<P>, request: &Request) -> (Roll<P>, Answer)
-    ensures { TurnsClosed opens steps ends (closed_state_of roll) (λ size calls. turn_shut size calls request.now) result.0 result.1 }
+    ensures { TurnsClosed P.opens P.steps P.ends (closed_state_of roll) (λ size calls. turn_shut size calls request.now) result.0 result.1 }
 {
     match request {
         Request::Reopen => reopen_turn(roll),
@@ -182,7 +182,7 @@ fn turn_closed<P: Press>(roll: ClosedRoll<P>, request: &Request) -> (Roll<P>, An
 
 // A request to a roll.
 pub fn turn<P: Press + Drop>(roll: Roll<P>, request: &Request) -> (Roll<P>, Answer)
-    ensures { TurnsAny opens steps ends roll request.now result.0 result.1 }
+    ensures { TurnsAny P.opens P.steps P.ends roll request.now result.0 result.1 }
 {
     match roll {
         Roll::Open(roll) => turn_open(roll, request),

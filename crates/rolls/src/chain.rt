@@ -11,7 +11,7 @@ use refusals::refusal::Refusal;
 
 // The chain value stepped through the passages in order.
 pub(crate) fn advance<P: Press>(press: &P, chain: &Chain, passages: &[Passage]) -> Chain
-    ensures { result ≡ fold (steps press.now) chain.now (encoded_all passages.now) }
+    ensures { result ≡ fold (P.steps press.now) chain.now (encoded_all passages.now) }
 {
     let mut c = *chain;
     for p in passages {
@@ -22,7 +22,7 @@ pub(crate) fn advance<P: Press>(press: &P, chain: &Chain, passages: &[Passage]) 
 
 // The chain value wound back through the passages, the newest first.
 pub(crate) fn unwind<P: Press>(press: &P, chain: &Chain, passages: &[Passage]) -> Chain
-    ensures { result ≡ unwound (backs press.now) chain.now (encoded_all passages.now) }
+    ensures { result ≡ unwound (P.backs press.now) chain.now (encoded_all passages.now) }
 {
     let mut c = *chain;
     for k in (0..passages.len()).rev() {

@@ -32,8 +32,8 @@ impl<P: Press> ClosedRoll<P> {
 
     // Undoes the close: the ending block is wound back.
     pub fn reopen(self) -> OpenRoll<P>
-        ensures block { Bytes 64 (ends self.press (standing_count (closed_state_of self).contents)) }
-        ensures after { state_of result ≡ after_reopen backs ends (closed_state_of self) }
+        ensures block { Bytes 64 (P.ends self.press (standing_count (closed_state_of self).contents)) }
+        ensures after { state_of result ≡ after_reopen P.backs P.ends (closed_state_of self) }
     {
         let ClosedRoll {
             press,

@@ -19,7 +19,7 @@ use roll_contents::contents::{RollContents, Total};
 impl<P: Press> OpenRoll<P> {
     // Opens a roll of that digest size, in bits; refuses a size that is none of the four, and hands the press back.
     pub fn open(press: P, size: u32) -> Result<OpenRoll<P>, Declined<P>>
-        ensures { Opens opens press size result }
+        ensures { Opens P.opens press size result }
     {
         match DigestSize::of_bits(size) {
             Ok(size) => {
@@ -40,7 +40,7 @@ impl<P: Press> OpenRoll<P> {
     pub fn pass(&mut self, passage: &[u8]) -> Result<(), Refusal>
         ensures answer { outcome result ≡ refused_pass (state_of self.old).contents passage.now }
         ensures block { OnOk result (Bytes 64 passage.now) }
-        ensures after { Leaves result (state_of self.old) (state_of self.new) (after_pass steps (state_of self.old) passage.now) }
+        ensures after { Leaves result (state_of self.old) (state_of self.new) (after_pass P.steps (state_of self.old) passage.now) }
     {
         let passage = self.contents.enter(passage)?;
         let seal = self.press.step(&self.seal, &passage.encode());
@@ -52,7 +52,7 @@ impl<P: Press> OpenRoll<P> {
     // and steps through the later ones again. Refuses a serial that was shipped, and one that the window does not hold.
     pub fn cancel(&mut self, serial: u32) -> Result<(), Refusal>
         ensures answer { outcome result ≡ refused_cancel (state_of self.old).contents serial }
-        ensures after { Leaves result (state_of self.old) (state_of self.new) (after_cancel steps backs (state_of self.old) serial) }
+        ensures after { Leaves result (state_of self.old) (state_of self.new) (after_cancel P.steps P.backs (state_of self.old) serial) }
     {
         let i = self.contents.place_of(serial)?;
         let before = unwind(&self.press, &self.seal, self.contents.tail(i));
@@ -81,7 +81,7 @@ impl<P: Press> OpenRoll<P> {
 
     // Closes the roll: the seal steps with the press's ending for the count of standing passages.
     pub fn close(self) -> ClosedRoll<P>
-        ensures { closed_state_of result ≡ after_close steps ends (state_of self) }
+        ensures { closed_state_of result ≡ after_close P.steps P.ends (state_of self) }
     {
         let OpenRoll {
             press,

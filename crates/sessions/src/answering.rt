@@ -30,7 +30,7 @@ pub(crate) fn line_answer(answer: Answer) -> LineAnswer
 
 // The total of a roll.
 pub(crate) fn total<P: Press>(roll: &Roll<P>) -> LineAnswer
-    ensures { (p : P) (size : ℕ) (f : Phase) (calls : List Call) → Stands opens steps ends p size roll.now f calls → said result ≡ totalled (daybook size calls) }
+    ensures { (p : P) (size : ℕ) (f : Phase) (calls : List Call) → Stands P.opens P.steps P.ends p size roll.now f calls → said result ≡ totalled (daybook size calls) }
 {
     match read(roll) {
         Reading::Sealed(total, _) => LineAnswer::Total(total.cents, total.count),
@@ -40,7 +40,7 @@ pub(crate) fn total<P: Press>(roll: &Roll<P>) -> LineAnswer
 
 // The digest of a closed roll of that size.
 pub(crate) fn digest<P: Press>(size: DigestSize, roll: &Roll<P>) -> LineAnswer
-    ensures { (p : P) (calls : List Call) → Stands opens steps ends p (bits_in size) roll.now shut calls → said result ≡ closed (digest_at (opens p) (steps p) (ends p) (daybook (bits_in size) calls)) }
+    ensures { (p : P) (calls : List Call) → Stands P.opens P.steps P.ends p (bits_in size) roll.now shut calls → said result ≡ closed (digest_at (P.opens p) (P.steps p) (P.ends p) (daybook (bits_in size) calls)) }
 {
     match read(roll) {
         Reading::Sealed(_, _) => LineAnswer::Refused(16),

@@ -15,7 +15,7 @@ use rolls::state::OpenRoll;
 
 // Opens a roll of so many bits; a refusal hands the press back.
 fn open<P: Press>(press: P, bits: u64) -> Result<SizedRoll<P>, Declined<P>>
-    ensures { Opened (functions opens steps ends) press bits result }
+    ensures { Opened (functions P.opens P.steps P.ends) press bits result }
 {
     if bits > 4_294_967_295 {
         return Err(Declined {
@@ -37,7 +37,7 @@ fn first<J: Press + Drop, D: Press + Drop>(
     drill: D,
     request: &LineRequest,
 ) -> (Session<J, D>, LineAnswer)
-    ensures { Answers (functions J.Press.opens J.Press.steps J.Press.ends) (functions D.Press.opens D.Press.steps D.Press.ends) (Session.Unopened jh drill) request.now result.0 result.1 }
+    ensures { Answers (functions J.opens J.steps J.ends) (functions D.opens D.steps D.ends) (Session.Unopened jh drill) request.now result.0 result.1 }
 {
     match request {
         LineRequest::Open(PressName::Jh, bits) => match open(jh, *bits) {
@@ -63,7 +63,7 @@ fn request<J: Press + Drop, D: Press + Drop>(
     session: Session<J, D>,
     request: &LineRequest,
 ) -> (Session<J, D>, LineAnswer)
-    ensures { Answers (functions J.Press.opens J.Press.steps J.Press.ends) (functions D.Press.opens D.Press.steps D.Press.ends) session request.now result.0 result.1 }
+    ensures { Answers (functions J.opens J.steps J.ends) (functions D.opens D.steps D.ends) session request.now result.0 result.1 }
 {
     match session {
         Session::Unopened(jh, drill) => first(jh, drill, request),
@@ -84,7 +84,7 @@ pub fn answer<J: Press + Drop, D: Press + Drop>(
     session: Session<J, D>,
     line: &[u8],
 ) -> (Session<J, D>, LineAnswer)
-    ensures { GoesOn (functions J.Press.opens J.Press.steps J.Press.ends) (functions D.Press.opens D.Press.steps D.Press.ends) session (request_of line.now) result.0 result.1 }
+    ensures { GoesOn (functions J.opens J.steps J.ends) (functions D.opens D.steps D.ends) session (request_of line.now) result.0 result.1 }
 {
     match read(line) {
         Some(asked) => request(session, &asked),

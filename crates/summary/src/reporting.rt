@@ -14,7 +14,7 @@ use refusals::size::DigestSize;
 
 // Finishes a feeder, and adds the line of its digest to a text.
 fn push_line<P: Permutation>(text: &mut Text<364>, feeder: &mut JhFeeder<P>, size: DigestSize)
-    ensures { (p : P) (m : List ℕ) → Holds image p m size feeder.old → Adds (jh_over (image p)) (bits_in size) m (written 364 text.old) (written 364 text.new) }
+    ensures { (p : P) (m : List ℕ) → Holds P.image p m size feeder.old → Adds (jh_over (P.image p)) (bits_in size) m (written 364 text.old) (written 364 text.new) }
 {
     // 64 bytes are enough for every size.
     let mut digest = [0; 64];
@@ -28,7 +28,7 @@ fn push_line<P: Permutation>(text: &mut Text<364>, feeder: &mut JhFeeder<P>, siz
 impl<P: Permutation + Copy> Summary<P> {
     // Whether the message has passed 2^40 bytes.
     pub fn refused(&self) -> bool
-        ensures { (p : P) (m : List ℕ) → Fed image p m self.now → result ≡ nat_lt (2 ^ 40) (length m) }
+        ensures { (p : P) (m : List ℕ) → Fed P.image p m self.now → result ≡ nat_lt (2 ^ 40) (length m) }
     {
         self.passed
     }
@@ -36,8 +36,8 @@ impl<P: Permutation + Copy> Summary<P> {
     // A line for each digest, `SIZE<tab>hexadecimal digits<line feed>`, sizes rising; `refused<tab>2<line feed>` where the message has
     // passed 2^40 bytes. Over a permutation that means E8, the digests are JH's.
     pub fn report(mut self) -> Text<364>
-        ensures value { (p : P) (m : List ℕ) → Fed image p m self → written 364 result ≡ report_of (jh_over (image p)) m }
-        ensures jh { (p : P) (m : List ℕ) → Fed image p m self → MeansE8 (image p) → written 364 result ≡ report_of jh m }
+        ensures value { (p : P) (m : List ℕ) → Fed P.image p m self → written 364 result ≡ report_of (jh_over (P.image p)) m }
+        ensures jh { (p : P) (m : List ℕ) → Fed P.image p m self → MeansE8 (P.image p) → written 364 result ≡ report_of jh m }
     {
         let mut text = Text::new();
         if self.refused() {

@@ -11,7 +11,7 @@ use refusals::size::DigestSize;
 impl<P: Permutation + Copy> Summary<P> {
     // The summary of the empty message.
     pub fn new(permutation: P) -> Self
-        ensures { Fed image permutation [] result }
+        ensures { Fed P.image permutation [] result }
     {
         let press = JhPress::new(permutation);
         Summary {
@@ -25,7 +25,7 @@ impl<P: Permutation + Copy> Summary<P> {
 
     // Puts bytes at the end of the message.
     pub fn feed(&mut self, bytes: &[u8])
-        ensures { (p : P) (m : List ℕ) → Fed image p m self.old → Fed image p (m ++ bytes.now) self.new }
+        ensures { (p : P) (m : List ℕ) → Fed P.image p m self.old → Fed P.image p (m ++ bytes.now) self.new }
     {
         if self.passed {
             return;

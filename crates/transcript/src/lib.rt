@@ -30,7 +30,7 @@ fn run<J: Press + Drop, D: Press + Drop>(
     text: &[u8],
     out: &mut Vec<u8>,
 ) -> Result<(), AllocError>
-    ensures { Runs (functions J.Press.opens J.Press.steps J.Press.ends) (functions D.Press.opens D.Press.steps D.Press.ends) session text.now out.old out.new result }
+    ensures { Runs (functions J.opens J.steps J.ends) (functions D.opens D.steps D.ends) session text.now out.old out.new result }
 {
     let mut session = session;
     let mut rest = text;
@@ -54,7 +54,7 @@ pub fn transcribe<J: Press + Drop, D: Press + Drop>(
     text: &[u8],
     out: &mut Vec<u8>,
 ) -> Result<(), AllocError>
-    ensures { Added result out.old out.new (output (by_name (meant (functions J.Press.opens J.Press.steps J.Press.ends) jh) (meant (functions D.Press.opens D.Press.steps D.Press.ends) drill)) text.now) }
+    ensures { Added result out.old out.new (output (by_name (meant (functions J.opens J.steps J.ends) jh) (meant (functions D.opens D.steps D.ends) drill)) text.now) }
 {
     let old = out.len();
     let most = text.len().min(MOST_READ);

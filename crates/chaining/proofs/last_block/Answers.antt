@@ -7,6 +7,6 @@ use Rattle.chaining.proofs.last_block.Goals as goal
 pub returns : goal.returns
 unfolding ending_block
 returns c =
-    let b = c.copy-from-slice.new.self in
-    let e : b ≡ big_endian 16 (512 * c.args.count) = simp div-one (c.copy-from-slice.ensures.after ∙ c.to-be-bytes.ensures) in
+    let b = c.copy_from_slice.new.self in
+    let e : b ≡ big_endian 16 (512 * c.args.count) = simp div-one (c.copy_from_slice.ensures.after ∙ c.to_be_bytes.ensures) in
     ap (λ t. 0x80 ∷ (replicate 47 0 ++ t)) (append-nil b ∙ e)

@@ -7,18 +7,18 @@ use Rattle.std.proofs.lemmas.Bool.{and_parts}
 use Rattle.fields.specs.Decimals.{read_on}
 use Rattle.fields.proofs.decimals.value_of.Goals as goal
 
-pub overflow-mul-value : goal.overflow-mul-value
-overflow-mul-value c =
+pub overflow_mul-value : goal.overflow_mul-value
+overflow_mul-value c =
     let p = pow-le-pow_right {n = 10} (omega arith) {i = c.loop-b.b-index} {j = 15} (omega arith) in
     omega (arith, p)
 
-pub overflow-sub-value : goal.overflow-sub-value
-overflow-sub-value c =
+pub overflow_sub-value : goal.overflow_sub-value
+overflow_sub-value c =
     let e : all_ascii_digits (drop c.loop-b.b-index c.args.field.now) ≡ (is_ascii_digit (get_or c.args.field.now c.loop-b.b-index 0) && all_ascii_digits (drop (c.loop-b.b-index + 1) c.args.field.now)) = at_drop_more all_ascii_digits c.args.field.now c.loop-b.b-index 0 c.loop-b-test.true in
     grind (arith, e)
 
-pub overflow-add-value : goal.overflow-add-value
-overflow-add-value c =
+pub overflow_add-value : goal.overflow_add-value
+overflow_add-value c =
     let p = pow-le-pow_right {n = 10} (omega arith) {i = c.loop-b.b-index} {j = 15} (omega arith) in
     omega (arith, p)
 

@@ -8,5 +8,5 @@ loop-b-preserved c = let e = drop_more c.args.field.now c.loop-b.b-index 0 c.loo
 pub returns : goal.returns
 returns c = let e = drop_all c.loop-b.b-index c.args.field.now c.loop-b-test.false in grind (arith, e)
 
-pub returns-then-not-is-hex-digit : goal.returns-then-not-is-hex-digit
-returns-then-not-is-hex-digit c = let e = drop_more c.args.field.now c.loop-b.b-index 0 c.loop-b-test.true in grind (arith, e)
+pub returns-then-not-is_hex_digit : goal.returns-then-not-is_hex_digit
+returns-then-not-is_hex_digit c = let e = drop_more c.args.field.now c.loop-b.b-index 0 c.loop-b-test.true in grind (arith, e)

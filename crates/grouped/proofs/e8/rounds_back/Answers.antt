@@ -14,31 +14,31 @@ none_done n = omega arith
 
 pub loop-r-init : goal.loop-r-init
 loop-r-init c = (
-  c.round-constant-constant.ensures ∙ ap constant (none_done c.args.rounds),
+  c.round_constant-constant.ensures ∙ ap constant (none_done c.args.rounds),
   c.requires,
   ap (λ (n : ℕ). before n c.args.elements.now) (sym (none_done c.args.rounds)),
 )
 
 pub retreat-requires : goal.retreat-requires
-retreat-requires c = constant_row (c.args.rounds - c.loop-r.-r) c.loop-r.constant c.loop-r.invariant.0
+retreat-requires c = constant_row (c.args.rounds - c.loop-r._r) c.loop-r.constant c.loop-r.invariant.0
 
-pub slice-bounds-unround-end : goal.slice-bounds-unround-end
-slice-bounds-unround-end c = sym c.retreat.array_long
+pub slice_bounds-unround-end : goal.slice_bounds-unround-end
+slice_bounds-unround-end c = sym c.retreat.array_long
 
 pub unround-requires : goal.unround-requires
 unround-requires c = (omega arith, (c.loop-r.invariant.1, ap (λ (m : ℕ). 4 * m) (sym c.retreat.array_long)))
 
 pub loop-r-preserved : goal.loop-r-preserved
 loop-r-preserved c =
-    let k = retreated c.args.rounds c.loop-r.-r c.loop-r.constant c.retreat.new.constant c.loop-r-test.true c.loop-r.invariant.0 c.retreat.ensures in
-    let e : c.unround.new.elements ≡ unround (bits (constant (c.args.rounds - (c.loop-r.-r + 1)))) c.loop-r.elements
+    let k = retreated c.args.rounds c.loop-r._r c.loop-r.constant c.retreat.new.constant c.loop-r-test.true c.loop-r.invariant.0 c.retreat.ensures in
+    let e : c.unround.new.elements ≡ unround (bits (constant (c.args.rounds - (c.loop-r._r + 1)))) c.loop-r.elements
     = c.unround.ensures ∙ ap (λ (ks : List ℕ). unround (bits ks) c.loop-r.elements) k in (
       k,
-      unround_row (c.args.rounds - (c.loop-r.-r + 1)) c.loop-r.elements c.unround.new.elements c.loop-r.invariant.1 e,
-      ap (before (c.args.rounds - (c.loop-r.-r + 1))) e ∙ before_next c.args.rounds c.loop-r.-r c.loop-r.elements c.loop-r-test.true ∙ c.loop-r.invariant.2,
+      unround_row (c.args.rounds - (c.loop-r._r + 1)) c.loop-r.elements c.unround.new.elements c.loop-r.invariant.1 e,
+      ap (before (c.args.rounds - (c.loop-r._r + 1))) e ∙ before_next c.args.rounds c.loop-r._r c.loop-r.elements c.loop-r-test.true ∙ c.loop-r.invariant.2,
     )
 
 pub returns : goal.returns
 returns c =
-    let e : c.args.rounds - c.loop-r.-r ≡ 0 = omega arith in
+    let e : c.args.rounds - c.loop-r._r ≡ 0 = omega arith in
     sym (before_none c.loop-r.elements) ∙ ap (λ (n : ℕ). before n c.loop-r.elements) (sym e) ∙ c.loop-r.invariant.2

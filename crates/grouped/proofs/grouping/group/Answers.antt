@@ -8,9 +8,9 @@ use Rattle.grouped.proofs.grouping.group.Goals as goal
 pub loop-p-preserved : goal.loop-p-preserved
 loop-p-preserved c =
     let more = fill_by_more (element_from c.args.state.now) c.loop-p.elements c.loop-p.p 0 (omega arith) c.loop-p.invariant.1 in (
-      length-set c.loop-p.elements c.loop-p.p c.constant_element.result ∙ c.loop-p.invariant.0,
+      length-set c.loop-p.elements c.loop-p.p c.element_at.result ∙ c.loop-p.invariant.0,
       subst (λ (w : ℕ). (k : ℕ) → k < c.loop-p.p + 1 → get_or (set c.loop-p.elements c.loop-p.p w) k 0 ≡ element_from c.args.state.now k)
-          (sym c.constant_element.ensures) more,
+          (sym c.element_at.ensures) more,
     )
 
 pub returns : goal.returns

@@ -8,9 +8,9 @@ use Rattle.grouped.proofs.grouping.ungroup.Goals as goal
 pub loop-b-preserved : goal.loop-b-preserved
 loop-b-preserved c =
     let more = fill_by_more (byte_from c.args.elements.now) c.loop-b.state c.loop-b.b 0 (omega arith) c.loop-b.invariant.1 in (
-      length-set c.loop-b.state c.loop-b.b c.byte-at.result ∙ c.loop-b.invariant.0,
+      length-set c.loop-b.state c.loop-b.b c.byte_at.result ∙ c.loop-b.invariant.0,
       subst (λ (w : ℕ). (k : ℕ) → k < c.loop-b.b + 1 → get_or (set c.loop-b.state c.loop-b.b w) k 0 ≡ byte_from c.args.elements.now k)
-          (sym c.byte-at.ensures) more,
+          (sym c.byte_at.ensures) more,
     )
 
 pub returns : goal.returns

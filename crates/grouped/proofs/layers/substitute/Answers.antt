@@ -7,8 +7,8 @@ use Rattle.jh.proofs.Turns.{same_long}
 use Rattle.grouped.specs.Chosen.{chosen}
 use Rattle.grouped.proofs.layers.substitute.Goals as goal
 
-pub look-up-requires : goal.look-up-requires
-look-up-requires g c =
+pub look_up-requires : goal.look_up-requires
+look_up-requires g c =
     let box : Bool → ℕ → ℕ = chosen c.args.s0.now c.args.s1.now in
     let e = same_long c.args.constant.now c.args.elements.now (c.requires.row.long ∙ c.requires.matched) in
     box_small box (bits c.args.constant.now) c.args.elements.now e c.loop-i.i (omega (arith, c.requires.row.long)) c.loop-i.elements c.loop-i.invariant c.requires.row.small
@@ -18,7 +18,7 @@ loop-i-preserved g c =
     let box : Bool → ℕ → ℕ = chosen c.args.s0.now c.args.s1.now in
     let e = same_long c.args.constant.now c.args.elements.now (c.requires.row.long ∙ c.requires.matched) in
     box_more box (bits c.args.constant.now) c.args.elements.now e c.loop-i.i (omega (arith, c.requires.row.long)) c.loop-i.elements c.loop-i.invariant
-    c.bit-of.result c.look-up.result c.bit-of.ensures c.look-up.ensures
+    c.bit_of.result c.look_up.result c.bit_of.ensures c.look_up.ensures
 
 pub returns : goal.returns
 returns g c =

@@ -8,5 +8,5 @@ returns c =
     let part = c.args.part.now in
     let b = c.args.block.now in
     let k : i + length part - i ≡ length part = omega arith in
-    ap (λ (n : ℕ). take i b ++ (c.copy-from-slice.new.self ++ drop n (drop i b))) k
-    ∙ ap₂ (λ (x y : List ℕ). take i b ++ (x ++ y)) c.copy-from-slice.ensures.after (drop-drop (length part) i b)
+    ap (λ (n : ℕ). take i b ++ (c.copy_from_slice.new.self ++ drop n (drop i b))) k
+    ∙ ap₂ (λ (x y : List ℕ). take i b ++ (x ++ y)) c.copy_from_slice.ensures.after (drop-drop (length part) i b)

@@ -15,8 +15,8 @@ returns c =
     let y : List ℕ = big_endian 8 c.args.half in
     let fits : at + 8 ≤ length x = omega (arith, c.told-bytes, c.requires) in
     let n : at + 8 - at ≡ 8 = omega arith in
-    let w : c.copy-from-slice.new.self ≡ y = simp div-one (c.copy-from-slice.ensures.after ∙ c.to-be-bytes.ensures) in
-    let is : put_mid at (at + 8 - at) x c.copy-from-slice.new.self ≡ put_chunk at x y
+    let w : c.copy_from_slice.new.self ≡ y = simp div-one (c.copy_from_slice.ensures.after ∙ c.to_be_bytes.ensures) in
+    let is : put_mid at (at + 8 - at) x c.copy_from_slice.new.self ≡ put_chunk at x y
     = ap₂ (λ (k : ℕ) (ys : List ℕ). put_mid at k x ys) n w ∙ sym (put_chunk_is at x y fits) in
     record {
       here = subst (λ (z : List ℕ). HalfAt z at c.args.half) (sym is) (put_here x at c.args.half c.told-bytes c.requires);

@@ -6,10 +6,10 @@ use Rattle.words.proofs.eight.write_word.Goals as goal
 pub returns : goal.returns
 returns c =
     let k : ℕ = c.args.k in
-    let y : List ℕ = c.write-half.new.bytes in
-    let z : List ℕ = c.write-half-2.new.bytes in
-    let one = c.write-half.ensures in
-    let two = c.write-half-2.ensures in
+    let y : List ℕ = c.write_half.new.bytes in
+    let z : List ℕ = c.write_half-2.new.bytes in
+    let one = c.write_half.ensures in
+    let two = c.write_half-2.ensures in
     record {
       here = λ i g.
           c.halves-high.ensures i

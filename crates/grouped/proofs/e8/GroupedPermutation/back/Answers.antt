@@ -4,9 +4,9 @@ use Rattle.jh.specs.Inverse.{before, e8⁻¹}
 use Rattle.jh.proofs.Turns.{group_row}
 use Rattle.grouped.proofs.e8.GroupedPermutation.back.Goals as goal
 
-pub rounds-back-requires : goal.rounds-back-requires
-rounds-back-requires c = group_row c.args.state.now c.group-elements.result c.group-elements.ensures
+pub rounds_back-requires : goal.rounds_back-requires
+rounds_back-requires c = group_row c.args.state.now c.group-elements.result c.group-elements.ensures
 
 pub returns : goal.returns
 unfolding e8⁻¹
-returns c = c.ungroup.ensures ∙ ap ungroup (c.rounds-back.ensures ∙ ap (before 42) c.group-elements.ensures)
+returns c = c.ungroup.ensures ∙ ap ungroup (c.rounds_back.ensures ∙ ap (before 42) c.group-elements.ensures)

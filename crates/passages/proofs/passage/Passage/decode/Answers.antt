@@ -15,5 +15,5 @@ returns c =
     let m = c.args.block.now in
     let n = length-drop 32 m in
     let b : Bytes 64 m = search rules in
-    let t : c.copy-from-slice.new.self ≡ tag_of m = c.copy-from-slice.ensures.after ∙ take_all 32 (drop 32 m) (omega arith) in
+    let t : c.copy_from_slice.new.self ≡ tag_of m = c.copy_from_slice.ensures.after ∙ take_all 32 (drop 32 m) (omega arith) in
     record { fields = cc; bytes = λ z. again _ m b (cc) z }
