@@ -17,7 +17,7 @@ returns c =
     let l = length_hex (take (bits_in c.args.size / 8) c.args.digest.now) in
     let m = length-take-le (bits_in c.args.size / 8) c.args.digest.now (omega (arith, short)) in
     record {
-      bytes = two_parts capacity (written capacity c.new-text.result) (written capacity c.push.new.self) (written capacity c.push-hex.new.self) (codes "closed" ++ (9 ∷ [])) (hex_of (take n d))
-          c.new-text.ensures c.push.ensures (c.push-hex.ensures ∙ ap (λ k. take capacity (written capacity c.push.new.self ++ hex_of (take k d))) e) (omega (arith, l, m, short));
+      bytes = two_parts capacity (written capacity c.new-text.result) (written capacity c.push.new.self) (written capacity c.push_hex.new.self) (codes "closed" ++ (9 ∷ [])) (hex_of (take n d))
+          c.new-text.ensures c.push.ensures (c.push_hex.ensures ∙ ap (λ k. take capacity (written capacity c.push.new.self ++ hex_of (take k d))) e) (omega (arith, l, m, short));
       room = omega (arith, l, m, short);
     }

@@ -10,7 +10,7 @@ returns c =
     let e = c.from.ensures in
     let few = length-decimal-le 20 c.args.number (omega arith) (omega arith) (omega arith) in
     record {
-      bytes = two_parts capacity (written capacity c.new-text.result) (written capacity c.push.new.self) (written capacity c.push-number.new.self) (codes "refused" ++ (9 ∷ [])) (decimal c.args.number)
-          c.new-text.ensures c.push.ensures (c.push-number.ensures ∙ ap (λ n. take capacity (written capacity c.push.new.self ++ decimal n)) c.from.ensures) (omega (arith, few));
+      bytes = two_parts capacity (written capacity c.new-text.result) (written capacity c.push.new.self) (written capacity c.push_number.new.self) (codes "refused" ++ (9 ∷ [])) (decimal c.args.number)
+          c.new-text.ensures c.push.ensures (c.push_number.ensures ∙ ap (λ n. take capacity (written capacity c.push.new.self ++ decimal n)) c.from.ensures) (omega (arith, few));
       room = omega (arith, few);
     }

@@ -10,7 +10,7 @@ returns c =
     let m = c.args.passage.now in
     let l = length_hex c.args.passage.now in
     record {
-      bytes = two_parts capacity (written capacity c.new-text.result) (written capacity c.push.new.self) (written capacity c.push-hex.new.self) (codes "shipped" ++ (9 ∷ [])) (hex_of m)
-          c.new-text.ensures c.push.ensures c.push-hex.ensures (omega (arith, l));
+      bytes = two_parts capacity (written capacity c.new-text.result) (written capacity c.push.new.self) (written capacity c.push_hex.new.self) (codes "shipped" ++ (9 ∷ [])) (hex_of m)
+          c.new-text.ensures c.push.ensures c.push_hex.ensures (omega (arith, l));
       room = omega (arith, l);
     }

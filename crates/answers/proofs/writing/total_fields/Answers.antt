@@ -13,11 +13,11 @@ returns c =
     let q = length-decimal-le 20 c.args.count (omega arith) (omega arith) (omega arith) in
     let l = length-append (decimal c.args.cents) (9 ∷ decimal c.args.count) in
     let w1 = written capacity c.push.new.self in
-    let w2 = written capacity c.push-number.new.self in
+    let w2 = written capacity c.push_number.new.self in
     let w3 = written capacity c.push-2.new.self in
-    let w4 = written capacity c.push-number-2.new.self in
-    let last = c.push-number-2.ensures ∙ ap (λ n. take capacity (w3 ++ decimal n)) c.from.ensures in
-    let tail = then_part capacity w1 w2 w4 cents (9 ∷ count) c.push-number.ensures (then_part capacity w2 w3 w4 (9 ∷ []) count c.push-2.ensures last) in
+    let w4 = written capacity c.push_number-2.new.self in
+    let last = c.push_number-2.ensures ∙ ap (λ n. take capacity (w3 ++ decimal n)) c.from.ensures in
+    let tail = then_part capacity w1 w2 w4 cents (9 ∷ count) c.push_number.ensures (then_part capacity w2 w3 w4 (9 ∷ []) count c.push-2.ensures last) in
     record {
       bytes = two_parts capacity (written capacity c.new-text.result) w1 w4 (codes "total" ++ (9 ∷ [])) (cents ++ (9 ∷ count)) c.new-text.ensures c.push.ensures tail (omega (arith, p, q, l));
       room = omega (arith, p, q, l);

@@ -20,5 +20,5 @@ returns c =
     let b = before_fours 42 f s in
     let n = length_fours b.0 in
     c.write.ensures q n
-    (c.back_first.ensures q (record { long = n; small = b.1 })
+    (c.back-first.ensures q (record { long = n; small = b.1 })
     (subst (λ (p : List ℕ). Form 0 p c.read-last.result) (sym (before_undone 42 f s)) c.read-last.ensures))

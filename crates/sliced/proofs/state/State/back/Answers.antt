@@ -9,7 +9,7 @@ loop-seven-init c q e l = l
 pub loop-seven-preserved : goal.loop-seven-preserved
 loop-seven-preserved c q e l =
     let k : ℕ = c.loop-seven.seven in
-    c.previous-seven-state.ensures q e
+    c.previous_seven-state.ensures q e
     (recounted q c.loop-seven.state (7 * k) (7 * (k - 1) + 7) (omega arith) (c.loop-seven.invariant q e l))
 
 pub returns : goal.returns

@@ -9,7 +9,7 @@ loop-seven-init c q e l = l
 pub loop-seven-preserved : goal.loop-seven-preserved
 loop-seven-preserved c q e l =
     let k : ℕ = c.loop-seven.seven in
-    recounted q c.next-seven-state.result (7 * k + 7) (7 * (k + 1)) (omega arith) (c.next-seven-state.ensures q e (c.loop-seven.invariant q e l))
+    recounted q c.next_seven-state.result (7 * k + 7) (7 * (k + 1)) (omega arith) (c.next_seven-state.ensures q e (c.loop-seven.invariant q e l))
 
 pub returns : goal.returns
 returns c q e l = recounted q c.loop-seven.state (7 * c.loop-seven.seven) 42 (omega arith) (c.loop-seven.invariant q e l)

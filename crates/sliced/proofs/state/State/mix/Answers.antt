@@ -12,8 +12,8 @@ pub returns : goal.returns
 returns c i =
     let a : ℕ = element_at c.args.self.even i in
     let b : ℕ = element_at c.args.self.odd i in
-    let odd : element_at c.plus-twice-odd.result i ≡ second a b = c.plus-twice-odd.ensures i ∙ xor_comm b (times 2 a) in
+    let odd : element_at c.plus_twice-odd.result i ≡ second a b = c.plus_twice-odd.ensures i ∙ xor_comm b (times 2 a) in
     record {
-      even = c.plus-twice-even.ensures i ∙ ap (λ (d : ℕ). bit_xor a (times 2 d)) odd ∙ first_by_second a b (small c.args.self.even i) (small c.args.self.odd i);
+      even = c.plus_twice-even.ensures i ∙ ap (λ (d : ℕ). bit_xor a (times 2 d)) odd ∙ first_by_second a b (small c.args.self.even i) (small c.args.self.odd i);
       odd = odd;
     }

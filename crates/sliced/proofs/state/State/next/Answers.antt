@@ -9,7 +9,7 @@ use Rattle.sliced.proofs.state.State.next.Goals as goal
 pub returns : goal.returns
 returns c q e l =
     let s = c.args.self in
-    let n = round_forth c.args.round c.requires.below c.round-constant-c.result c.round-constant-c.ensures q e (element_at s.even) (element_at s.odd) l in
+    let n = round_forth c.args.round c.requires.below c.round_constant-c.result c.round_constant-c.ensures q e (element_at s.even) (element_at s.odd) l in
     let mixed = c.mix-mixed.ensures in
     let one = c.substitute-even.ensures in
     let two = c.substitute-odd.ensures in

@@ -10,8 +10,8 @@ use Rattle.sliced.proofs.state.State.previous.Goals as goal
 pub returns : goal.returns
 returns c q e l =
     let s = c.args.self in
-    let k = c.round-constant-c.result in
-    let was = round_back c.args.round c.requires.below k c.round-constant-c.ensures q e (element_at s.even) (element_at s.odd) l in
+    let k = c.round_constant-c.result in
+    let was = round_back c.args.round c.requires.below k c.round_constant-c.ensures q e (element_at s.even) (element_at s.odd) l in
     let unmixed = c.unmix-unmixed.ensures in
     let exchanged : (i : ℕ) → i < 128 → element_at c.exchange-odd.result i ≡ element_at s.odd (bit_xor i (2 ^ (c.args.round % 7)))
     = λ i h. c.exchange-odd.ensures i h ∙ ap (λ (w : ℕ). element_at s.odd (bit_xor i w)) c.requires.turn in

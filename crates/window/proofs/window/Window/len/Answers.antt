@@ -6,7 +6,7 @@ use Rattle.window.proofs.window.Window.len.Goals as goal
 
 pub returns : goal.returns
 returns c =
-    let n = length-map c.as-slice.result.now encoded in
-    let e = ap length c.as-slice.ensures in
+    let n = length-map c.as_slice.result.now encoded in
+    let e = ap length c.as_slice.ensures in
     let l = length_listed c.args.self.now in
     record { value = sym n ∙ e; bound = omega (arith, n, e, l) }

@@ -18,7 +18,7 @@ pub returns : goal.returns
 returns c =
     let i = c.args.i in
     let j = c.min.result in
-    let all = c.as-slice-all.result.now in
+    let all = c.as_slice-all.result.now in
     ap encoded_all (take_rest all j ∙ drop_min i j all c.min.ensures)
     ∙ sym (drop-map encoded i all)
-    ∙ ap (drop i) c.as-slice-all.ensures
+    ∙ ap (drop i) c.as_slice-all.ensures
