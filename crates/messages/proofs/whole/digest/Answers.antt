@@ -14,22 +14,22 @@ returns g c =
     let b = c.args.bits in
     let st = g.P.Press.steps p in
     let o = c.opening.result in
-    let z : bits_in c.in-ok-size.size ≡ n = c.in-ok-size.ensures.size in
+    let z : bits_in c.in_ok-size.size ≡ n = c.in_ok-size.ensures.size in
     let q : b / 8 - 0 ≡ b / 8 = omega arith in
     let last = get_or xs (b / 8) 0 in
     let whole : List ℕ = take (b / 8) xs ++ ending (marked (b % 8) last) b in
-    let t = c.take-all.ensures.holds o [] (c.new-state.ensures.holds st) in
+    let t = c.take_all.ensures.holds o [] (c.new-state.ensures.holds st) in
     let e = c.end.ensures.holds o (take (b / 8 - 0) xs) t in
     let h : Holds st o whole c.end.new.self =
-    subst (λ (y : List ℕ). Holds st o y c.end.new.self) (ap₂ (λ (k l : ℕ). take k xs ++ ending l b) q c.last-byte.ensures) e in
+    subst (λ (y : List ℕ). Holds st o y c.end.new.self) (ap₂ (λ (k l : ℕ). take k xs ++ ending l b) q c.last_byte.ensures) e in
     let d : tail n c.end.new.self.chain ≡ digest_of st (g.P.Press.opens p n) n (take b (bits_of xs)) =
     ap (tail n) h.chained
-    ∙ digest_from_bytes xs (λ k. omega (arith, c.type-inv.bytes k)) b (b / 8) (b % 8) (omega arith) (omega arith) (omega arith) st o n
+    ∙ digest_from_bytes xs (λ k. omega (arith, c.type_inv.bytes k)) b (b / 8) (b % 8) (omega arith) (omega arith) (omega arith) st o n
     ∙ ap (λ (y : List ℕ). digest_of st y n (take b (bits_of xs))) (c.opening.ensures ∙ ap (g.P.Press.opens p) z) in
     record {
       answer = search rules;
       written =
-          c.write-tail.ensures
+          c.write_tail.ensures
           ∙ ap (λ (y : ℕ). tail y c.end.new.self.chain ++ drop (y / 8) c.args.out.now) z
           ∙ ap (λ (y : List ℕ). y ++ drop (n / 8) c.args.out.now) d;
     }

@@ -13,5 +13,5 @@ returns g c =
     let o = simp c.unwrap-fresh.ensures at c.open.ensures in
     let z : t.len - 0 ≡ t.len = omega arith in
     resumed (take (t.len - 0) t.bytes) (state_of c.unwrap-fresh.result) (state_of c.resume.new.self) s c.resume.result c.resume.ensures
-    (ap (λ (x : State g.row.P.Denot). x.press) o.1 ∙ c.into-press.ensures)
+    (ap (λ (x : State g.row.P.Denot). x.press) o.1 ∙ c.into_press.ensures)
     (ap (λ (n : ℕ). read_text (take n t.bytes)) z ∙ e)

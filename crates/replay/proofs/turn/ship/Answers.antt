@@ -12,16 +12,16 @@ use Rattle.replay.proofs.turn.ship.Goals as goal
 pub returns-in-Ok : goal.returns-in-Ok
 returns-in-Ok g c =
     let s = state_of c.args.roll.now in
-    let s' = state_of c.ship-into.new.roll in
+    let s' = state_of c.ship_into.new.roll in
     let e = c.in-Ok.ensures in
-    answers_by g.P.Press.opens g.P.Press.steps s (shipping c.args.room) (λ d. Shipped (next_out d)) 0 (Shipped c.ship-into.new.block) s'
+    answers_by g.P.Press.opens g.P.Press.steps s (shipping c.args.room) (λ d. Shipped (next_out d)) 0 (Shipped c.ship_into.new.block) s'
     (ship_goes g.P.Press.opens g.P.Press.steps c.args.room s (Ok tt) s' e.answer e.after)
     (λ p size calls h. ap Shipped (e.written ∙ oldest_is s.contents (daybook size calls) h.keeps))
 
 pub returns-in-Err : goal.returns-in-Err
 returns-in-Err g c =
     let s = state_of c.args.roll.now in
-    let s' = state_of c.ship-into.new.roll in
+    let s' = state_of c.ship_into.new.roll in
     let e = c.in-Err.ensures in
     let x = c.in-Err.refusal in
     answers_by g.P.Press.opens g.P.Press.steps s (shipping c.args.room) (λ d. Shipped (next_out d)) (number x) (Refused c.number.result) s'

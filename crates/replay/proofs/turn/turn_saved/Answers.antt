@@ -16,17 +16,17 @@ pub returns-in-Resume : goal.returns-in-Resume
 returns-in-Resume g c =
     λ e p size calls h.
     let s = state_of c.args.roll in
-    let r = c.resume-new.result in
+    let r = c.resume_new.result in
     let on = resume_goes g.P.Press.opens g.P.Press.steps p size calls s h in
     subst (λ (q : Request). Turned g.P.Press.opens g.P.Press.steps g.P.Press.ends p size (Open r) Done (turn_kept size calls q)) (sym c.in-Resume.is)
     (record {
-      stands = (refl, subst (λ (x : State g.row.P.Denot). Came g.P.Press.opens g.P.Press.steps p x size (calls ++ resuming ∷ [])) (sym (c.resume-new.ensures e)) on);
+      stands = (refl, subst (λ (x : State g.row.P.Denot). Came g.P.Press.opens g.P.Press.steps p x size (calls ++ resuming ∷ [])) (sym (c.resume_new.ensures e)) on);
       answer = refl;
     })
 
-pub returns-in-default : goal.returns-in-default
-returns-in-default g c =
+pub returns-in_default : goal.returns-in_default
+returns-in_default g c =
     λ e p size calls h.
     let w = c.turn_open in
     subst (λ (t : Turn). Turned g.P.Press.opens g.P.Press.steps g.P.Press.ends p size w.result.0 w.result.1 t)
-    (sym (kept_else size calls c.args.request.now c.in-default.not-Resume c.in-default.not-Reopen)) (w.ensures p size calls h)
+    (sym (kept_else size calls c.args.request.now c.in_default.not-Resume c.in_default.not-Reopen)) (w.ensures p size calls h)

@@ -13,6 +13,6 @@ returns c =
       answer = search rules;
       written = (
         omega arith,
-        ap₂ (λ (x : List ℕ) (k : ℕ). x ++ drop k c.args.out.now) (c.copy-from-slice.ensures.after ∙ take_all (128 - (128 - n)) (drop (128 - n) chain) (omega arith)) z,
+        ap₂ (λ (x : List ℕ) (k : ℕ). x ++ drop k c.args.out.now) (c.copy_from_slice.ensures.after ∙ take_all (128 - (128 - n)) (drop (128 - n) chain) (omega arith)) z,
       );
     }

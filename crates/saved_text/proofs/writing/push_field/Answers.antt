@@ -9,6 +9,6 @@ pub returns : goal.returns
 returns c =
     let few = length-decimal-le 20 c.args.n (omega arith) (omega arith) (omega arith) in
     record {
-      bytes = then_part capacity (written capacity c.args.text.now) (written capacity c.push.new.self) (written capacity c.push-number.new.self) (9 ∷ []) (decimal c.args.n) c.push.ensures c.push-number.ensures;
+      bytes = then_part capacity (written capacity c.args.text.now) (written capacity c.push.new.self) (written capacity c.push_number.new.self) (9 ∷ []) (decimal c.args.n) c.push.ensures c.push_number.ensures;
       short = omega (arith, few);
     }

@@ -9,8 +9,8 @@ returns c =
     let v = read_numbers c.args.numbers.now in
     record {
       bytes = head_parts capacity v
-          (written capacity c.args.text.now) (written capacity c.push.new.self) (written capacity c.push-field.new.text) (written capacity c.push-field-2.new.text) (written capacity c.push-field-3.new.text)
-          (written capacity c.push-field-4.new.text) (written capacity c.push-field-5.new.text) (written capacity c.push-2.new.self)
-          c.push.ensures c.push-field.ensures.bytes c.push-field-2.ensures.bytes c.push-field-3.ensures.bytes c.push-field-4.ensures.bytes c.push-field-5.ensures.bytes c.push-2.ensures;
-      short = head_short v c.push-field.ensures.short c.push-field-2.ensures.short c.push-field-3.ensures.short c.push-field-4.ensures.short c.push-field-5.ensures.short;
+          (written capacity c.args.text.now) (written capacity c.push.new.self) (written capacity c.push_field.new.text) (written capacity c.push_field-2.new.text) (written capacity c.push_field-3.new.text)
+          (written capacity c.push_field-4.new.text) (written capacity c.push_field-5.new.text) (written capacity c.push-2.new.self)
+          c.push.ensures c.push_field.ensures.bytes c.push_field-2.ensures.bytes c.push_field-3.ensures.bytes c.push_field-4.ensures.bytes c.push_field-5.ensures.bytes c.push-2.ensures;
+      short = head_short v c.push_field.ensures.short c.push_field-2.ensures.short c.push_field-3.ensures.short c.push_field-4.ensures.short c.push_field-5.ensures.short;
     }

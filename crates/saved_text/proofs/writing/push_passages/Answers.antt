@@ -21,11 +21,11 @@ loop-passage-preserved c =
     let i = c.loop-passage.passage-index in
     let old = written capacity c.args.text.now in
     let before = encoded_all (take i ps) in (
-      then_part capacity old _ _ (flat_map pass_text before) (pass_text c.encode.result) c.loop-passage.invariant.0 c.push-passage.ensures.bytes
+      then_part capacity old _ _ (flat_map pass_text before) (pass_text c.encode.result) c.loop-passage.invariant.0 c.push_passage.ensures.bytes
           ∙ ap (λ u. take capacity (old ++ u))
           (ap (λ m. flat_map pass_text before ++ pass_text m) c.encode.ensures ∙ flat_map_more pass_text [] before _ ∙ sym (ap (flat_map pass_text) (map_more encoded ps i _ c.loop-passage-test.true))),
       subst (All (Bytes 64)) (sym (map_more encoded ps i _ c.loop-passage-test.true))
-          (All-push (Bytes 64) before _ c.loop-passage.invariant.1 (subst (Bytes 64) c.encode.ensures c.push-passage.ensures.wide)),
+          (All-push (Bytes 64) before _ c.loop-passage.invariant.1 (subst (Bytes 64) c.encode.ensures c.push_passage.ensures.wide)),
     )
 
 pub returns : goal.returns

@@ -18,16 +18,16 @@ returns g c = λ p m h.
     let k : c.bytes.result - 0 ≡ n / 8 = omega (arith, c.bytes.ensures) in
     let e : take (c.bytes.result - 0) d ≡ x = ap (λ (j : ℕ). take j d) k ∙ f.1 in
     let o : List ℕ = written 364 c.args.text.now in
-    let t1 : List ℕ = written 364 c.push-number.new.self in
+    let t1 : List ℕ = written 364 c.push_number.new.self in
     let t2 : List ℕ = written 364 c.push.new.self in
-    let t3 : List ℕ = written 364 c.push-hex.new.self in
+    let t3 : List ℕ = written 364 c.push_hex.new.self in
     let t4 : List ℕ = written 364 c.push-2.new.self in
     let y : List ℕ = hex_of (take (c.bytes.result - 0) d) in
     let z : List ℕ = decimal c.from.result in
     let all : t4 ≡ take 364 (o ++ (z ++ (9 ∷ (y ++ (10 ∷ []))))) =
-    then_part 364 o t1 t4 z (9 ∷ (y ++ (10 ∷ []))) c.push-number.ensures
+    then_part 364 o t1 t4 z (9 ∷ (y ++ (10 ∷ []))) c.push_number.ensures
     (then_part 364 t1 t2 t4 (9 ∷ []) (y ++ (10 ∷ [])) c.push.ensures
-    (then_part 364 t2 t3 t4 y (10 ∷ []) c.push-hex.ensures c.push-2.ensures)) in
+    (then_part 364 t2 t3 t4 y (10 ∷ []) c.push_hex.ensures c.push-2.ensures)) in
     record {
       long = length_line (jh_over (g.P.Permutation.image p)) m n (three_digits s) f.0;
       text = all ∙ ap₂ (λ (j : ℕ) (u : List ℕ). take 364 (o ++ (decimal j ++ (9 ∷ (hex_of u ++ (10 ∷ [])))))) (c.from.ensures ∙ c.bits.ensures) e;

@@ -18,7 +18,7 @@ returns g c =
       written = λ m h.
           let e : Holds st o (m ++ ending 128 (8 * length m)) s =
           subst (λ (k : ℕ). Holds st o (m ++ ending 128 (8 * k)) s) h.counted (c.end.ensures.holds o m h) in
-          c.write-tail.ensures
+          c.write_tail.ensures
           ∙ ap (λ (d : List ℕ). d ++ drop (n / 8) c.args.out.now) (ap (tail n) e.chained ∙ digest_whole_bytes m h.bytes st o n);
       after = record {
         press = refl;

@@ -10,15 +10,15 @@ loop-at-init g c = (omega arith, takes_none (g.P.Press.steps c.args.press.now) c
 pub loop-at-preserved : goal.loop-at-preserved
 loop-at-preserved g c =
     let a = c.loop-at.at in
-    let n = c.take-front-at.result in
+    let n = c.take_front-at.result in
     let b = c.args.bytes.now in
     let s = c.args.self.now in
-    let u = c.take-front-at.new.self in
+    let u = c.take_front-at.new.self in
     let step = g.P.Press.steps c.args.press.now in
     let x : List ℕ = take n (take (length b - a) (drop a b)) in
     let e : take a b ++ x ≡ take (a + n) b = ap (λ (y : List ℕ). take a b ++ take n y) (take_rest b a) ∙ sym (take-add a n b) in (
       search rules,
-      subst (λ (y : List ℕ). Takes step y s u) e (takes_both step (take a b) x s c.loop-at.self u c.loop-at.invariant.1 c.take-front-at.ensures.after),
+      subst (λ (y : List ℕ). Takes step y s u) e (takes_both step (take a b) x s c.loop-at.self u c.loop-at.invariant.1 c.take_front-at.ensures.after),
     )
 
 pub returns : goal.returns

@@ -10,14 +10,14 @@ use Rattle.roll_contents.proofs.contents.RollContents.admit.Goals as goal
 admitted : (k : Contents) (m : List ℕ) → length m ≡ 64 → length k.window < 32 → standing_count k < 1000000 → refused_pass k m ≡ refused_after (top_serial k) m
 admitted k m e w s = grind (arith, nat_tests)
 
-pub returns-in-err-passage : goal.returns-in-err-passage
-returns-in-err-passage c =
-    let p = err_from_is_err_and c.from-residual-in-err-passage.result c.from-residual-in-err-passage.ensures.1 in
+pub returns-in_err-passage : goal.returns-in_err-passage
+returns-in_err-passage c =
+    let p = err_from_is_err_and c.from_residual-in_err-passage.result c.from_residual-in_err-passage.ensures.1 in
     let k = contents_of c.args.self.now in
     let m = c.args.bytes.now in
-    let b = c.in-ok-block.ensures in
-    let a = c.in-err-passage.ensures.answer in
-    let l = c.last-serial-last.ensures in
+    let b = c.in_ok-block.ensures in
+    let a = c.in_err-passage.ensures.answer in
+    let l = c.last_serial-last.ensures in
     let wide = b.1.len in
     rw (p.1, p.2)
     (record {

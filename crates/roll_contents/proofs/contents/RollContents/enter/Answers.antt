@@ -8,16 +8,16 @@ use Rattle.window.specs.Listed.{listed}
 use Rattle.window.proofs.Changes.{pushed_in}
 use Rattle.roll_contents.proofs.contents.RollContents.enter.Goals as goal
 
-pub invariant-of-self : goal.invariant-of-self
-invariant-of-self c =
+pub invariant_of-self : goal.invariant_of-self
+invariant_of-self c =
     let k = c.args.self.now in
     let ms = listed k.window in
-    let p = c.in-ok-passage.passage in
-    let a = c.in-ok-passage.ensures.taken in
+    let p = c.in_ok-passage.passage in
+    let a = c.in_ok-passage.ensures.taken in
     let new : listed c.push.new.self ≡ ms ++ encoded p ∷ [] = pushed_in ms (encoded p) (listed c.push.new.self) c.push.result a.room c.push.ensures in
     let n = ap length new ∙ length_push ms (encoded p) in
     let s = a.standing in
     let fits : fits_after (last_serial k.last_shipped ms) (encoded p) ≡ true = ap (fits_after (last_serial k.last_shipped ms)) a.bytes ∙ a.fits in
     let order : in_order k.last_shipped (listed c.push.new.self) ≡ true =
     ap (in_order k.last_shipped) new ∙ in_order_push k.last_shipped ms (encoded p) k.order fits in
-    (omega arith, (order, (k.serials, (k.cents, (k.fresh, (k.high, tt))))))
+    record { standing = omega arith; order = order; serials = k.serials; cents = k.cents; fresh = k.fresh; high = k.high }

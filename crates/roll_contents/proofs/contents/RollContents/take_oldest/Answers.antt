@@ -7,12 +7,12 @@ use Rattle.passages.proofs.Order.{in_order_rest}
 use Rattle.window.specs.Listed.{listed}
 use Rattle.roll_contents.proofs.contents.RollContents.take_oldest.Goals as goal
 
-pub invariant-of-self-2 : goal.invariant-of-self-2
-invariant-of-self-2 c =
+pub invariant_of-self-2 : goal.invariant_of-self-2
+invariant_of-self-2 c =
     let k = c.args.self.now in
     let ms = listed k.window in
-    let p = c.in-ok-passage.passage in
-    let e = c.in-ok-passage.ensures in
+    let p = c.in_ok-passage.passage in
+    let e = c.in_ok-passage.ensures in
     let rest = in_order_rest k.last_shipped ms e.0 k.order in
     let serial : p.serial ≡ serial_of (get_or ms 0 []) = sym (serial_encoded p (omega arith)) ∙ ap serial_of e.1 in
     let n = ap length e.2 ∙ length-drop 1 ms in
@@ -23,14 +23,14 @@ invariant-of-self-2 c =
     let u = k.cents in
     let order : in_order p.serial (listed c.remove.new.self) ≡ true =
     ap (in_order p.serial) e.2 ∙ ap (λ (j : ℕ). in_order j (drop 1 ms)) serial ∙ rest.1 in
-    (omega arith, (order, (omega arith, (omega arith, (omega arith, (omega arith, tt))))))
+    record { standing = omega arith; order = order; serials = omega arith; cents = omega arith; fresh = omega arith; high = omega arith }
 
 pub returns : goal.returns
 returns c =
     let k = c.args.self.now in
     let ms = listed k.window in
-    let p = c.in-ok-passage.passage in
-    let e = c.in-ok-passage.ensures in
+    let p = c.in_ok-passage.passage in
+    let e = c.in_ok-passage.ensures in
     let serial : p.serial ≡ serial_of (get_or ms 0 []) = sym (serial_encoded p (omega arith)) ∙ ap serial_of e.1 in
     let charged : p.charged ≡ charged_of (get_or ms 0 []) = sym (charged_encoded p (omega arith)) ∙ ap charged_of e.1 in
     (e.1, e.0, cc (serial, charged, e.2))

@@ -8,8 +8,8 @@ use Rattle.roll_contents.specs.Contents.{contents_of}
 use Rattle.window.proofs.Changes.{taken_out, removed_few}
 use Rattle.roll_contents.proofs.contents.RollContents.take_out.Goals as goal
 
-pub invariant-of-self : goal.invariant-of-self
-invariant-of-self c =
+pub invariant_of-self : goal.invariant_of-self
+invariant_of-self c =
     let k = c.args.self.now in
     let ms = listed k.window in
     let new : listed c.remove.new.self ≡ remove ms c.args.i = taken_out ms c.args.i _ c.remove.result c.remove.ensures in
@@ -18,7 +18,7 @@ invariant-of-self c =
     let s = k.standing in
     let order : in_order k.last_shipped (listed c.remove.new.self) ≡ true =
     ap (in_order k.last_shipped) new ∙ in_order_removed k.last_shipped ms c.args.i k.order in
-    (omega arith, (order, (k.serials, (k.cents, (k.fresh, (k.high, tt))))))
+    record { standing = omega arith; order = order; serials = k.serials; cents = k.cents; fresh = k.fresh; high = k.high }
 
 pub returns : goal.returns
 returns c =

@@ -13,17 +13,17 @@ use Rattle.saved_text.proofs.snapshot.Snapshot.text.Goals as goal
 pub returns : goal.returns
 returns c =
     let s = saved_in c.args.self.now in
-    let w = wide s c.push-chain.ensures.wide (subst (All (Bytes 64)) c.as-slice.ensures c.push-passages.ensures.wide) in
+    let w = wide s c.push_chain.ensures.wide (subst (All (Bytes 64)) c.as_slice.ensures c.push_passages.ensures.wide) in
     let n = length_numbers (numbers_told (saved_in c.args.self.now)) in
     let head = ap numbers_text c.numbers.ensures in
-    let short = c.push-head.ensures.short in
+    let short = c.push_head.ensures.short in
     let same = ap length head in
     let long = w.long in
     let d = length_listed c.args.self.now.window in
     let few = c.args.self.now.window.few in
     record {
-      bytes = text_parts capacity s (written capacity c.new-text.result) (written capacity c.push-head.new.text) (written capacity c.push-chain.new.text) (written capacity c.push-passages.new.text)
-          (encoded_all c.as-slice.result.now) c.new-text.ensures (c.push-head.ensures.bytes ∙ ap (λ t. take capacity (written capacity c.new-text.result ++ t)) head) c.push-chain.ensures.bytes c.push-passages.ensures.bytes c.as-slice.ensures
+      bytes = text_parts capacity s (written capacity c.new-text.result) (written capacity c.push_head.new.text) (written capacity c.push_chain.new.text) (written capacity c.push_passages.new.text)
+          (encoded_all c.as_slice.result.now) c.new-text.ensures (c.push_head.ensures.bytes ∙ ap (λ t. take capacity (written capacity c.new-text.result ++ t)) head) c.push_chain.ensures.bytes c.push_passages.ensures.bytes c.as_slice.ensures
           (omega (arith, n, short, same, long, d, few));
       wide = w;
     }

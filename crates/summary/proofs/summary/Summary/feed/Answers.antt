@@ -17,7 +17,7 @@ returns g c = λ p m h.
     let x = c.args.bytes.now in
     let f = h.four (sym h.passed ∙ c.if-self.false) in
     record {
-      passed = c.is-err-self.ensures.value ∙ feed_passes i p m x _ _ c.feed-first.new.self c.feed-first.result f.d224 c.feed-first.ensures.answer;
+      passed = c.is_err-self.ensures.value ∙ feed_passes i p m x _ _ c.feed-first.new.self c.feed-first.result f.d224 c.feed-first.ensures.answer;
       four = λ e. record {
         d224 = feed_holds i p m x _ _ _ c.feed-first.result f.d224 c.feed-first.ensures.answer c.feed-first.ensures.after e;
         d256 = feed_holds i p m x _ _ _ c.feed.result f.d256 c.feed.ensures.answer c.feed.ensures.after e;

@@ -20,12 +20,12 @@ returns-then-refused g c =
 pub returns : goal.returns
 returns g c =
     let image = g.P.Permutation.image in
-    let text : List ℕ = written 364 c.push-line-4.new.text in
+    let text : List ℕ = written 364 c.push_line-4.new.text in
     let v : (p : g.row.P.Denot) (m : List ℕ) → Fed image p m c.args.self → text ≡ report_of (jh_over (image p)) m =
     λ p m h.
     let within = sym (c.refused.ensures p m h) ∙ c.if-refused.false in
     let f = h.four within in
     four_lines (jh_over (image p)) m _ _ _ _ text c.new-text.ensures within
-    (c.push-line.ensures p m f.d224) (c.push-line-2.ensures p m f.d256)
-    (c.push-line-3.ensures p m f.d384) (c.push-line-4.ensures p m f.d512) in
+    (c.push_line.ensures p m f.d224) (c.push_line-2.ensures p m f.d256)
+    (c.push_line-3.ensures p m f.d384) (c.push_line-4.ensures p m f.d512) in
     record { value = v; jh = λ p m h e. v p m h ∙ report_jh (image p) e m }
