@@ -14,23 +14,23 @@ pub loop-line-preserved : goal.loop-line-preserved
 loop-line-preserved g c =
     goes (functions g.J.Press.opens g.J.Press.steps g.J.Press.ends) (functions g.D.Press.opens g.D.Press.steps g.D.Press.ends)
     c.args.session c.args.text.now c.args.out.now c.loop-line.session c.loop-line.rest.now c.loop-line.out c.loop-line.invariant
-    c.answer-next.result.0 c.add.new.out c.answer-next.result.1 c.in-Some.line.now c.in-Some.after.now c.in-Some.ensures c.answer-next.ensures c.in-ok-add.ensures
+    c.answer-next.result.0 c.add.new.out c.answer-next.result.1 c.in-Some.line.now c.in-Some.after.now c.in-Some.ensures c.answer-next.ensures c.in_ok-add.ensures
 
-pub returns-in-err-add : goal.returns-in-err-add
-returns-in-err-add g c = λ j d k h.
-    let e = err_from_is_err_and c.from-residual.result c.from-residual.ensures.1 in
+pub returns-in_err-add : goal.returns-in_err-add
+returns-in_err-add g c = λ j d k h.
+    let e = err_from_is_err_and c.from_residual.result c.from_residual.ensures.1 in
     rw e.1 (stops (functions g.J.Press.opens g.J.Press.steps g.J.Press.ends) (functions g.D.Press.opens g.D.Press.steps g.D.Press.ends)
     c.args.session c.args.text.now c.args.out.now c.loop-line.session c.loop-line.rest.now c.loop-line.out c.loop-line.invariant
-    c.add.new.out c.answer-next.result.0 c.answer-next.result.1 c.in-Some.line.now c.in-Some.after.now c.in-Some.ensures c.answer-next.ensures c.in-err-add.ensures j d k h)
+    c.add.new.out c.answer-next.result.0 c.answer-next.result.1 c.in-Some.line.now c.in-Some.after.now c.in-Some.ensures c.answer-next.ensures c.in_err-add.ensures j d k h)
 
 pub returns-then-rest-eq0 : goal.returns-then-rest-eq0
 returns-then-rest-eq0 g c =
     ends (functions g.J.Press.opens g.J.Press.steps g.J.Press.ends) (functions g.D.Press.opens g.D.Press.steps g.D.Press.ends)
     c.args.session c.args.text.now c.args.out.now c.loop-line.session c.loop-line.rest.now c.loop-line.out c.loop-line.invariant
-    c.in-default.ensures c.if-rest-eq0.true
+    c.in_default.ensures c.if-rest-eq0.true
 
 pub returns : goal.returns
 returns g c =
     last (functions g.J.Press.opens g.J.Press.steps g.J.Press.ends) (functions g.D.Press.opens g.D.Press.steps g.D.Press.ends)
     c.args.session c.args.text.now c.args.out.now c.loop-line.session c.loop-line.rest.now c.loop-line.out c.loop-line.invariant
-    c.add-2.result c.add-2.new.out c.in-default.ensures c.if-rest-eq0.false c.add-2.ensures
+    c.add-2.result c.add-2.new.out c.in_default.ensures c.if-rest-eq0.false c.add-2.ensures
