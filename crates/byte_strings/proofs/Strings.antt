@@ -1,6 +1,6 @@
 -- Strings of bytes: below 256 at every place.
-use Rattle.std.proofs.Common.{◌≡◌, ℕ, zero, suc, ◌+◌, ◌<◌, ◌≤◌, List, [], ◌∷◌, ◌++◌, length, get_or, take, drop, replicate, sym, refl, ap, ◌∙◌, subst, inl, inr, mod-lt, arith, lit<}
-use Rattle.std.specs.List.{AllByRecursion as All}
+use Rattle.std.proofs.Common.{◌≡◌, ℕ, zero, suc, ◌<◌, List, [], ◌∷◌, ◌++◌, length, get_or, take, drop, replicate, refl, ap, inl, inr, mod-lt, arith, lit<}
+use Rattle.std.specs.List.{AllByRecursion}
 use Rattle.std.proofs.ByRecursion.{All-get_or, All-from_get_or}
 use Rattle.std.proofs.lemmas.List.{get_or_past}
 use Rattle.std.proofs.lemmas.Bool.{cases_lt}
@@ -17,10 +17,10 @@ everywhere {n} {xs} b k =
 pub bytes_from : (n : ℕ) (xs : List ℕ) → length xs ≡ n → ((k : ℕ) → get_or xs k 0 < 256) → Bytes n xs
 bytes_from n xs e s = record { len = e; small = λ k h. s k }
 
-pub all_bytes : {n : ℕ} {xs : List ℕ} → Bytes n xs → All (λ a. a < 256) xs
+pub all_bytes : {n : ℕ} {xs : List ℕ} → Bytes n xs → AllByRecursion (λ a. a < 256) xs
 all_bytes {n} {xs} b = All-from_get_or (λ a. a < 256) xs 0 (λ k h. b.small k (let e = b.len in omega arith))
 
-pub bytes_all : (n : ℕ) (xs : List ℕ) → length xs ≡ n → All (λ a. a < 256) xs → Bytes n xs
+pub bytes_all : (n : ℕ) (xs : List ℕ) → length xs ≡ n → AllByRecursion (λ a. a < 256) xs → Bytes n xs
 bytes_all n xs e s = record { len = e; small = λ k h. All-get_or (λ a. a < 256) xs k 0 (omega arith) s }
 
 pub small_append : (xs ys : List ℕ) → ((k : ℕ) → get_or xs k 0 < 256) → ((k : ℕ) → get_or ys k 0 < 256) → (k : ℕ) → get_or (xs ++ ys) k 0 < 256

@@ -2,7 +2,7 @@
 use Rattle.std.proofs.Common.{◌≡◌, ℕ, zero, suc, ◌+◌, ◌<◌, ◌≤◌, min, List, [], ◌∷◌, ◌++◌, length, get_or, take, drop, set, sym, refl, ap, ◌∙◌, ap₂, le_of_suc-le-suc, not-suc-le-zero, arith}
 use lib.Bits.{bit_xor, xor_self, xor_assoc, xor_zero_r, xor_lt}
 use Rattle.std.proofs.lemmas.List.{take-append-drop}
-use Rattle.byte_strings.specs.Bytes.{Bytes, xored}
+use Rattle.byte_strings.specs.Bytes.{xored}
 use Rattle.byte_strings.proofs.Over.{over, over_at, over_more}
 
 xor_twice : (a b : ℕ) → bit_xor (bit_xor a b) b ≡ a

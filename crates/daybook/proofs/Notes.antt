@@ -1,6 +1,6 @@
 -- The contents of a roll and the daybook, call by call.
 use Rattle.std.proofs.Common.{◌≡◌, ℕ, ◌+◌, ◌<◌, true, false, cond, eqb, List, [], ◌∷◌, ◌++◌, length, get_or, take, drop, fold, sum_by, sym, refl, ap, ◌∙◌, arith}
-use Rattle.std.specs.List.{AllByRecursion as All}
+use Rattle.std.specs.List.{AllByRecursion}
 use Rattle.std.proofs.lemmas.Bool.{eq-eqb, ne_eqb}
 use Rattle.std.proofs.lemmas.List.{take-append-le, drop-append-le, take_at, drop_at, length-take-le, length-drop, length-append, take_more, get_or-drop, drop-drop}
 use Rattle.std.proofs.lemmas.List.Sums.{fold_push, sum_by_push, sum_by-take-drop}
@@ -38,10 +38,10 @@ pub size_kept : (d : Daybook) (calls : List Call) → (fold next d calls).size �
 size_kept d [] = refl
 size_kept d (c ∷ calls) = size_kept (next d c) calls ∙ next_size d c
 
-all_without : (P : List ℕ → Type 0) (n : ℕ) (ms : List (List ℕ)) → All P ms → All P (without n ms)
+all_without : (P : List ℕ → Type 0) (n : ℕ) (ms : List (List ℕ)) → AllByRecursion P ms → AllByRecursion P (without n ms)
 all_without P n [] h = h
 all_without P n (m ∷ ms) h =
-    elim (eqb (serial_of m) n) as (λ b. All P (cond b ms (m ∷ without n ms))) [ true ↦ h.1 | false ↦ (h.0, all_without P n ms h.1) ]
+    elim (eqb (serial_of m) n) as (λ b. AllByRecursion P (cond b ms (m ∷ without n ms))) [ true ↦ h.1 | false ↦ (h.0, all_without P n ms h.1) ]
 
 module _ (k : Contents) (d : Daybook) (h : Keeps k d) where
   length_archived : length (archived d) ≡ d.shipped

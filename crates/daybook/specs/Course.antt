@@ -1,6 +1,6 @@
 -- A roll and the row of calls by which it came: its course.
 use Rattle.std.specs.Prelude.{◌≡◌, ℕ, ◌≤◌, List, [], ◌∷◌, ◌++◌, length, sum_by}
-use Rattle.std.specs.List.{AllByRecursion as All}
+use Rattle.std.specs.List.{AllByRecursion}
 use Rattle.byte_strings.specs.Bytes.{Bytes}
 use Rattle.passages.specs.Fields.{charged_of}
 use Rattle.passages.specs.Rows.{last_serial}
@@ -15,7 +15,7 @@ pub record Keeps (k : Contents) (d : Daybook) : Type 0 where
   pub shipped : k.shipped ≡ d.shipped
   pub last : k.last ≡ last_serial 0 (archived d)
   pub cents : k.cents ≡ sum_by charged_of (archived d)
-  pub blocks : All (Bytes 64) d.standing
+  pub blocks : AllByRecursion (Bytes 64) d.standing
   pub within : d.shipped ≤ length d.standing
 
 -- a roll at the state s, over the press p, holds what the daybook says, and its chain value is `seal`

@@ -1,5 +1,5 @@
 -- A text cut at a byte.
-use Rattle.std.specs.Prelude.{ℕ, suc, ◌+◌, Bool, cond, List, [], ◌∷◌, length, take, drop, Some, None, Option, ◌==◌, nat_lt}
+use Rattle.std.specs.Prelude.{ℕ, suc, ◌+◌, cond, List, [], ◌∷◌, length, take, drop, Some, None, Option, ◌==◌, nat_lt}
 
 -- how many bytes stand before the first b, or all where there is none
 abbrev pub up_to : ℕ → List ℕ → ℕ

@@ -1,6 +1,6 @@
 // Lower-case hexadecimal, two digits to a byte, the high half first.
 ghost use Rattle.std.specs.Prelude.{◌≡◌, ◌+◌, ◌*◌, ◌<◌, true, ◌&&◌, [], ◌∷◌, length, ◌==◌};
-ghost use Rattle.fields.specs.Hex.{is_hex_digit, nibble as nibble-of, all_hex, bytes_of, read_hex, hex_digit, hex_of};
+ghost use Rattle.fields.specs.Hex.{is_hex_digit, nibble as nibble_of, all_hex, bytes_of, read_hex, hex_digit, hex_of};
 
 fn is_hex_digit(b: u8) -> bool
     ensures { result ≡ is_hex_digit b }
@@ -11,7 +11,7 @@ fn is_hex_digit(b: u8) -> bool
 // The value of a digit.
 fn nibble(b: u8) -> u8
     requires { is_hex_digit b ≡ true }
-    ensures value { result ≡ nibble-of b }
+    ensures value { result ≡ nibble_of b }
     ensures small { result < 16 }
 {
     if b <= b'9' { b - b'0' } else { b - 87 }
@@ -31,7 +31,7 @@ fn all_hex(field: &[u8]) -> bool
 // The byte of two digits, the high half first.
 fn byte(high: u8, low: u8) -> u8
     requires { (is_hex_digit high ≡ true) × (is_hex_digit low ≡ true) }
-    ensures { result ≡ 16 * nibble-of high + nibble-of low }
+    ensures { result ≡ 16 * nibble_of high + nibble_of low }
 {
     16 * nibble(high) + nibble(low)
 }

@@ -1,13 +1,13 @@
 -- Grouping 128 bytes into 256 elements and ungrouping undo each other.
-use Rattle.std.proofs.Common.{◌≡◌, ℕ, zero, suc, ◌+◌, ◌-◌, ◌*◌, ◌/◌, ◌%◌, ◌^◌, ◌<◌, ◌≤◌, Bool, true, false, cond, ◌&&◌, T, eqb, List, [], ◌∷◌, map, length, get_or, sym, refl, ap, ◌∙◌, subst, ap₂, zero-add, arith, eqb→eq}
+use Rattle.std.proofs.Common.{◌≡◌, ℕ, zero, suc, ◌+◌, ◌-◌, ◌*◌, ◌/◌, ◌%◌, ◌<◌, ◌≤◌, Bool, true, false, cond, eqb, List, [], ◌∷◌, map, length, get_or, sym, refl, ap, ◌∙◌, subst, ap₂, zero-add, arith, eqb→eq}
 use mathlib.Core.Bool.{beq}
-use Rattle.std.specs.List.{range_with_len, AllByRecursion as All}
+use Rattle.std.specs.List.{range_with_len, AllByRecursion}
 use Rattle.std.proofs.lemmas.List.{ext_get_or}
-use Rattle.std.proofs.ByRecursion.{All-get_or, All-from_get_or}
+use Rattle.std.proofs.ByRecursion.{All-get_or}
 use Rattle.std.proofs.lemmas.List.FromFn.{length-map-range_with_len, get_or-map-range_with_len}
 use Rattle.jh.specs.Bit.{bit, element}
 use Rattle.jh.specs.Permutation.{byte_bit, element_from, group, grouped_bit, byte_from, ungroup}
-use Rattle.jh.proofs.Below.{below, below_at, every_bits, bits_at, same}
+use Rattle.jh.proofs.Below.{below, below_at, bits_at, same}
 
 -- ---- bits of an element and of a byte
 
@@ -95,7 +95,7 @@ pub ungroup_at : (q : List ℕ) (b : ℕ) → b < 128 → get_or (ungroup q) b 0
 unfolding ungroup
 ungroup_at q b h = get_or-map-range_with_len (byte_from q) 0 128 b b 0 h (zero-add b)
 
-all_map : (P : ℕ → Type 0) (f : ℕ → ℕ) → ((k : ℕ) → P (f k)) → (ks : List ℕ) → All P (map f ks)
+all_map : (P : ℕ → Type 0) (f : ℕ → ℕ) → ((k : ℕ) → P (f k)) → (ks : List ℕ) → AllByRecursion P (map f ks)
 all_map P f h [] = tt
 all_map P f h (k ∷ ks) = (h k, all_map P f h ks)
 
@@ -104,7 +104,7 @@ element_from_small x p =
     let i : ℕ = p % 2 * 128 + p / 2 in
     element_small (byte_bit x i) (byte_bit x (i + 256)) (byte_bit x (i + 512)) (byte_bit x (i + 768))
 
-pub group_small : (x : List ℕ) → All (λ a. a < 16) (group x)
+pub group_small : (x : List ℕ) → AllByRecursion (λ a. a < 16) (group x)
 unfolding group
 group_small x = all_map (λ a. a < 16) (element_from x) (element_from_small x) (range_with_len 0 256)
 
@@ -116,7 +116,7 @@ byte_from_small q b =
       element_small (grouped_bit q (8 * b + 4)) (grouped_bit q (8 * b + 5)) (grouped_bit q (8 * b + 6)) (grouped_bit q (8 * b + 7)),
     )
 
-pub ungroup_small : (q : List ℕ) → All (λ a. a < 256) (ungroup q)
+pub ungroup_small : (q : List ℕ) → AllByRecursion (λ a. a < 256) (ungroup q)
 unfolding ungroup
 ungroup_small q = all_map (λ a. a < 256) (byte_from q) (byte_from_small q) (range_with_len 0 128)
 
@@ -155,7 +155,7 @@ byte_place x b k j h e =
     let r : j % 8 ≡ k = omega arith in
     ap₂ (λ (m n : ℕ). bit (get_or x m 0) (7 - n)) q r
 
-pub ungroup_group : (x : List ℕ) → length x ≡ 128 → All (λ a. a < 256) x → ungroup (group x) ≡ x
+pub ungroup_group : (x : List ℕ) → length x ≡ 128 → AllByRecursion (λ a. a < 256) x → ungroup (group x) ≡ x
 ungroup_group x e s =
     ext_get_or 0 (ungroup (group x)) x (length_ungroup (group x) ∙ sym e)
     (λ b l.
@@ -193,7 +193,7 @@ element_place q p t j h l e =
     let n : j / 256 ≡ t = omega arith in
     ap₂ (λ (x y : ℕ). bit (get_or q x 0) (3 - y)) m n
 
-pub group_ungroup : (q : List ℕ) → length q ≡ 256 → All (λ a. a < 16) q → group (ungroup q) ≡ q
+pub group_ungroup : (q : List ℕ) → length q ≡ 256 → AllByRecursion (λ a. a < 16) q → group (ungroup q) ≡ q
 group_ungroup q e s =
     ext_get_or 0 (group (ungroup q)) q (length_group (ungroup q) ∙ sym e)
     (λ p l.

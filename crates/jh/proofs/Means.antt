@@ -1,5 +1,5 @@
 -- Over a permutation that means E8, the construction is JH: it asks the permutation for its value at strings of 128 bytes alone.
-use Rattle.std.proofs.Common.{◌≡◌, ℕ, zero, suc, ◌-◌, ◌*◌, ◌/◌, ◌^◌, ◌<◌, ◌≤◌, Bool, true, false, List, [], ◌∷◌, length, get_or, take, drop, replicate, ap, ◌∙◌, pow-suc, arith, lit<, pow_mono}
+use Rattle.std.proofs.Common.{◌≡◌, ℕ, zero, suc, ◌*◌, ◌/◌, ◌^◌, ◌<◌, ◌≤◌, Bool, true, false, List, [], ◌∷◌, length, get_or, take, drop, replicate, ap, ◌∙◌, pow-suc, arith, lit<, pow_mono}
 use Rattle.std.proofs.lemmas.List.{length-take, length-take-le, length-drop}
 use Rattle.byte_strings.specs.Bytes.{Bytes}
 use Rattle.byte_strings.proofs.Strings.{bytes_from, small_take, small_drop}

@@ -1,16 +1,15 @@
 -- R_d and its inverse undo each other on elements, over any number of fours.
-use Rattle.std.proofs.Common.{◌≡◌, ℕ, zero, suc, ◌+◌, ◌-◌, ◌*◌, ◌/◌, ◌%◌, ◌^◌, ◌<◌, ◌≤◌, Bool, List, [], ◌∷◌, ◌++◌, length, take, drop, sym, refl, ap, ◌∙◌, subst, ap₂, arith, length-append, pow-add}
-use Rattle.std.specs.List.{AllByRecursion as All}
+use Rattle.std.proofs.Common.{◌≡◌, ℕ, ◌+◌, ◌-◌, ◌*◌, ◌/◌, ◌^◌, ◌<◌, ◌≤◌, Bool, List, [], ◌∷◌, length, take, drop, sym, refl, ap, ◌∙◌, ap₂, arith, pow-add}
+use Rattle.std.specs.List.{AllByRecursion}
 use Rattle.std.proofs.ByRecursion.{All-append, All-take, All-drop}
-use Rattle.jh.specs.Round.{sbox, first, second, boxed, paired, substitute, mix, turn, evens, odds, swapped, permute, round}
+use Rattle.jh.specs.Round.{sbox, first, second, boxed, paired, substitute, mix, turn, swapped, permute, round}
 use Rattle.jh.specs.Inverse.{unsbox, unfirst, unsecond, unsubstitute, unmix, merge, unpermute, unround}
-use Rattle.jh.specs.Laws.{Elements}
 use Rattle.jh.proofs.Places.{Fours, none, more, fours, length_fours, boxed_fours, paired_fours, front, back}
 use Rattle.jh.proofs.Undone.{Twos, empty, two, twos, length_permute, permute_undone, unpermute_undone, unpermute_fours}
 use Rattle.jh.proofs.Tables.{box_at, pair_at}
 
 abbrev pub Small : List ℕ → Type 0
-Small = All (λ a. a < 16)
+Small = AllByRecursion (λ a. a < 16)
 
 -- ---- the S-box layer
 

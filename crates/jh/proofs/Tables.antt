@@ -1,5 +1,5 @@
 -- The S-boxes and L against their inverses, by tests that antt computes: one over a table's 16 entries, one over 256 pairs.
-use Rattle.std.proofs.Common.{◌≡◌, ℕ, ◌+◌, ◌<◌, Bool, true, false, ◌&&◌, T, eqb, ltb, refl, eqb→eq, ltb→lt}
+use Rattle.std.proofs.Common.{◌≡◌, ℕ, ◌<◌, Bool, true, false, ◌&&◌, T, eqb, ltb, eqb→eq, ltb→lt}
 use Rattle.jh.specs.Round.{sbox, first, second}
 use Rattle.jh.specs.Inverse.{unsbox, unfirst, unsecond}
 use Rattle.jh.proofs.Below.{below, below_at, both_left, both_right}

@@ -1,9 +1,9 @@
 -- P_d and its inverse undo each other, on any number of fours.
-use Rattle.std.proofs.Common.{◌≡◌, ℕ, zero, suc, ◌+◌, ◌-◌, ◌*◌, ◌/◌, ◌%◌, ◌^◌, ◌<◌, ◌≤◌, List, [], ◌∷◌, ◌++◌, length, take, drop, sym, refl, ap, ◌∙◌, subst, ap₂, arith, length-append, length-drop, length-take}
+use Rattle.std.proofs.Common.{◌≡◌, ℕ, zero, suc, ◌*◌, ◌/◌, List, [], ◌∷◌, ◌++◌, length, take, drop, sym, refl, ap, ◌∙◌, subst, ap₂, arith, length-append, length-drop}
 use Rattle.std.proofs.lemmas.List.{take_at, drop_at, take-append-drop, length-take-le}
 use Rattle.jh.specs.Round.{turn, evens, odds, swapped, permute}
 use Rattle.jh.specs.Inverse.{merge, unpermute}
-use Rattle.jh.proofs.Places.{Fours, none, more, fours, length_fours, front_long, back_long, front, back}
+use Rattle.jh.proofs.Places.{Fours, none, more, front_long, back_long, front, back}
 
 -- a list of m pairs
 pub data Twos {A : Type 0} : List A → ℕ → Type 0 where

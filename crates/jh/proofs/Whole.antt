@@ -1,15 +1,13 @@
 -- E8 and its inverse undo each other on every 128 bytes.
-use Rattle.std.proofs.Common.{◌≡◌, ℕ, zero, suc, ◌+◌, ◌-◌, ◌*◌, ◌/◌, ◌%◌, ◌^◌, ◌<◌, ◌≤◌, Bool, false, List, [], ◌∷◌, length, sym, refl, ap, ◌∙◌, subst, ap₂, mod-lt, arith, lit<}
+use Rattle.std.proofs.Common.{◌≡◌, ℕ, zero, suc, ◌*◌, ◌/◌, ◌^◌, false, List, [], ◌∷◌, length, refl, ap, ◌∙◌, mod-lt, arith, lit<}
 use lib.ListN.{length-replicate}
-use Rattle.std.specs.List.{AllByRecursion as All}
 use Rattle.jh.specs.Round.{round}
 use Rattle.jh.specs.Constants.{C0, nibbles, zeros, constant}
 use Rattle.jh.specs.Permutation.{bits, group, ungroup, after, e8}
 use Rattle.jh.specs.Inverse.{unround, before, e8⁻¹}
-use Rattle.byte_strings.specs.Bytes.{Bytes}
 use Rattle.byte_strings.proofs.Strings.{all_bytes, bytes_all}
 use Rattle.jh.specs.Laws.{E8Undone}
-use Rattle.jh.proofs.Places.{Fours, none, more, fours, length_fours}
+use Rattle.jh.proofs.Places.{Fours, fours, length_fours}
 use Rattle.jh.proofs.Rounds.{Small, round_undone, unround_undone, round_long, unround_long, round_small, unround_small}
 use Rattle.jh.proofs.Grouping.{length_group, length_ungroup, group_small, ungroup_small, ungroup_group, group_ungroup}
 

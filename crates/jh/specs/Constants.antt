@@ -1,5 +1,5 @@
 -- The round constants: C 0 is the fraction of the square root of 2, each other one a round of dimension 6 of the one before.
-use Rattle.std.specs.Prelude.{ℕ, zero, suc, ◌+◌, ◌-◌, ◌*◌, ◌/◌, ◌%◌, ◌^◌, Bool, true, false, eqb, List, [], ◌∷◌, ◌++◌, replicate}
+use Rattle.std.specs.Prelude.{ℕ, zero, suc, ◌+◌, ◌*◌, ◌/◌, ◌%◌, ◌^◌, Bool, false, List, [], ◌∷◌, replicate}
 use Rattle.jh.specs.Round.{round}
 
 abbrev pub C0 : ℕ

@@ -1,5 +1,5 @@
 -- The inverses of a round and of E8.
-use Rattle.std.specs.Prelude.{ℕ, zero, suc, ◌/◌, Bool, true, false, cond, List, [], ◌∷◌, length, take, drop, bit_xor, slice_index}
+use Rattle.std.specs.Prelude.{ℕ, zero, suc, ◌/◌, Bool, cond, List, [], ◌∷◌, length, take, drop, bit_xor, slice_index}
 use Rattle.jh.specs.Field.{times}
 use Rattle.jh.specs.Round.{boxed, paired, turn, swapped}
 use Rattle.jh.specs.Constants.{constant}

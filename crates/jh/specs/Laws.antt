@@ -1,6 +1,6 @@
 -- What the definitions promise of one another.
 use Rattle.std.specs.Prelude.{◌≡◌, ℕ, ◌+◌, ◌^◌, ◌<◌, ◌≤◌, Bool, List, length}
-use Rattle.std.specs.List.{AllByRecursion as All}
+use Rattle.std.specs.List.{AllByRecursion}
 use Rattle.byte_strings.specs.Bytes.{Bytes}
 use Rattle.jh.specs.Round.{sbox, first, second, permute, round}
 use Rattle.jh.specs.Constants.{C0}
@@ -21,7 +21,7 @@ LUndone = (a b : ℕ) → a < 16 → b < 16
 -- 2^d elements
 pub record Elements (d : ℕ) (xs : List ℕ) : Type 0 where
   pub long : length xs ≡ 2 ^ d
-  pub small : All (λ a. a < 16) xs
+  pub small : AllByRecursion (λ a. a < 16) xs
 
 -- P_d and its inverse undo each other, at every dimension d from 2 on
 abbrev pub PermuteUndone : Type 0

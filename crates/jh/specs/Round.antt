@@ -1,5 +1,5 @@
 -- The round function R_d of JH on a list of 2^d elements of four bits: S-boxes, the linear transformation L, the permutation P_d.
-use Rattle.std.specs.Prelude.{ℕ, Bool, true, false, cond, List, [], ◌∷◌, ◌++◌, bit_xor, slice_index}
+use Rattle.std.specs.Prelude.{ℕ, Bool, cond, List, [], ◌∷◌, ◌++◌, bit_xor, slice_index}
 use Rattle.jh.specs.Field.{times}
 
 -- the two S-boxes, by input

@@ -1,6 +1,6 @@
 -- A chain value stepped through whole blocks and the ending block for their count is JH's of the blocks joined.
-use Rattle.std.proofs.Common.{◌≡◌, ℕ, zero, suc, ◌+◌, ◌-◌, ◌*◌, ◌/◌, ◌<◌, ◌≤◌, List, [], ◌∷◌, ◌++◌, length, get_or, take, drop, replicate, fold, sym, refl, ap, ◌∙◌, ap₂, arith}
-use Rattle.std.specs.List.{AllByRecursion as All}
+use Rattle.std.proofs.Common.{◌≡◌, ℕ, zero, suc, ◌+◌, ◌*◌, ◌/◌, ◌<◌, ◌≤◌, List, [], ◌∷◌, ◌++◌, length, get_or, take, drop, replicate, fold, sym, refl, ap, ◌∙◌, ap₂, arith}
+use Rattle.std.specs.List.{AllByRecursion}
 use Rattle.std.proofs.lemmas.List.{length-append, take_all, take_at, drop_at, drop-drop}
 use Rattle.std.proofs.lemmas.List.Sums.{fold_more}
 use Rattle.byte_strings.specs.Bytes.{Bytes, big_endian}
@@ -14,16 +14,16 @@ use Rattle.jh.proofs.Padded.{digest_whole_bytes}
 use Rattle.jh.proofs.Means.{means_jh}
 use Rattle.jh_rolls.specs.Message.{in_a_row}
 
-length_row : (ms : List (List ℕ)) → All (Bytes 64) ms → length (in_a_row ms) ≡ 64 * length ms
+length_row : (ms : List (List ℕ)) → AllByRecursion (Bytes 64) ms → length (in_a_row ms) ≡ 64 * length ms
 length_row [] h = refl
 length_row (m ∷ ms) h = omega (arith, length-append m (in_a_row ms), h.0.len, length_row ms h.1)
 
-small_row : (ms : List (List ℕ)) → All (Bytes 64) ms → (k : ℕ) → get_or (in_a_row ms) k 0 < 256
+small_row : (ms : List (List ℕ)) → AllByRecursion (Bytes 64) ms → (k : ℕ) → get_or (in_a_row ms) k 0 < 256
 small_row [] h k = omega arith
 small_row (m ∷ ms) h k = small_append m (in_a_row ms) (everywhere h.0) (small_row ms h.1) k
 
 -- a block of the row is the passage at that place
-block_row : (ms : List (List ℕ)) (i : ℕ) → All (Bytes 64) ms → i < length ms → block (in_a_row ms) i ≡ get_or ms i []
+block_row : (ms : List (List ℕ)) (i : ℕ) → AllByRecursion (Bytes 64) ms → i < length ms → block (in_a_row ms) i ≡ get_or ms i []
 block_row [] i h l = absurd (omega arith)
 block_row (m ∷ ms) zero h l = take_at m (in_a_row ms) 64 h.0.len
 block_row (m ∷ ms) (suc i) h l =
@@ -32,7 +32,7 @@ block_row (m ∷ ms) (suc i) h l =
     ∙ ap (take 64) (sym (drop-drop (64 * i) 64 (m ++ in_a_row ms)) ∙ ap (drop (64 * i)) (drop_at m (in_a_row ms) 64 h.0.len))
     ∙ block_row ms i h.1 (omega arith)
 
-module _ (step : List ℕ → List ℕ → List ℕ) (opening : List ℕ) (ms : List (List ℕ)) (wide : All (Bytes 64) ms) where
+module _ (step : List ℕ → List ℕ → List ℕ) (opening : List ℕ) (ms : List (List ℕ)) (wide : AllByRecursion (Bytes 64) ms) where
   through_row : (i : ℕ) → i ≤ length ms → through step opening i (in_a_row ms) ≡ fold step opening (take i ms)
   through_row zero h = refl
   through_row (suc i) h =
@@ -73,7 +73,7 @@ module _ (step : List ℕ → List ℕ → List ℕ) (opening : List ℕ) (ms : 
       ∙ digest_whole_bytes m (small_row ms wide) step opening size
 
 -- over a permutation that means E8 it is JH
-pub jh_row : (f : List ℕ → List ℕ) → MeansE8 f → (size : ℕ) (ms : List (List ℕ)) → All (Bytes 64) ms
+pub jh_row : (f : List ℕ → List ℕ) → MeansE8 f → (size : ℕ) (ms : List (List ℕ)) → AllByRecursion (Bytes 64) ms
     → tail size (compress f (fold (compress f) (opening_over f size) ms) (ending_block (length ms))) ≡ jh size (bits_of (in_a_row ms))
 jh_row f means size ms wide =
     digest_row (compress f) (opening_over f size) ms wide size ∙ means_jh f means size (bits_of (in_a_row ms))

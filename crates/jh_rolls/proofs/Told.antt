@@ -1,6 +1,6 @@
 -- What a closed roll over the JH press tells.
 use Rattle.std.proofs.Common.{◌≡◌, ℕ, ◌-◌, ◌/◌, List, ◌++◌, drop, replicate, IfOk, Ok, Err, Result, ap, ◌∙◌, ap₂}
-use Rattle.std.specs.List.{AllByRecursion as All}
+use Rattle.std.specs.List.{AllByRecursion}
 use Rattle.byte_strings.specs.Bytes.{Bytes}
 use Rattle.jh.specs.Compression.{compress, opening_over, ending_block}
 use Rattle.jh.specs.Jh.{MeansE8}
@@ -21,7 +21,7 @@ use Rattle.replay.specs.declared.request.Reading.TheVariants.{Digested}
 use Rattle.jh_rolls.specs.Jh.{opens, steps, ends, CameShut, jh_of, TellsJh}
 use Rattle.jh_rolls.proofs.Rows.{jh_row}
 
-digest_jh : (f : List ℕ → List ℕ) → MeansE8 f → (d : Daybook) → All (Bytes 64) d.standing
+digest_jh : (f : List ℕ → List ℕ) → MeansE8 f → (d : Daybook) → AllByRecursion (Bytes 64) d.standing
     → digest_at (opening_over f) (compress f) ending_block d ≡ jh_of d
 digest_jh f means d wide = jh_row f means d.size d.standing wide
 

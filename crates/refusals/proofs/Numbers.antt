@@ -1,5 +1,5 @@
 -- No refusal has the number 0.
-use Rattle.std.proofs.Common.{ℕ, ◌≤◌, arith}
+use Rattle.std.proofs.Common.{◌≤◌, arith}
 use Rattle.refusals.specs.Refusals.{number}
 use Rattle.refusals.specs.declared.refusal.Refusal.{Refusal}
 use Rattle.refusals.specs.declared.refusal.Refusal.TheVariants.{Size, Bytes, Bits, Buffer, Length, Full, Standing, Serial, Form, Price, Shipped, Unknown, Empty}

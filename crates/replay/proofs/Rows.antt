@@ -1,9 +1,9 @@
 -- A row of requests, one more; and what a roll tells after it.
-use Rattle.std.proofs.Common.{◌≡◌, ℕ, ◌+◌, ◌-◌, ◌/◌, ◌<◌, List, [], ◌∷◌, ◌++◌, length, get_or, take, drop, set, Ok, Err, Result, sym, refl, ap, ◌∙◌, subst, ap₂}
+use Rattle.std.proofs.Common.{◌≡◌, ℕ, ◌+◌, ◌/◌, ◌<◌, List, [], ◌∷◌, ◌++◌, length, get_or, take, drop, set, Ok, Err, Result, sym, refl, ap, ◌∙◌, subst, ap₂}
 use Rattle.std.proofs.lemmas.List.{take_more_set, drop-drop, drop-set}
 use Rattle.std.proofs.lemmas.List.Sums.{fold_more}
 use Rattle.std.proofs.lemmas.Bool.{eqb-false}
-use Rattle.std.specs.List.{AllByRecursion as All}
+use Rattle.std.specs.List.{AllByRecursion}
 use Rattle.byte_strings.specs.Bytes.{Bytes}
 use Rattle.refusals.specs.Refusals.{number, outcome, buffer_refusal}
 use Rattle.refusals.specs.Sizes.{bits_in}
@@ -42,7 +42,7 @@ module _ {P : Type 0} (opens : P → ℕ → List ℕ) (steps : P → List ℕ �
         rest = sym (drop-drop 1 i (set new i a)) ∙ ap (drop 1) (drop-set new i a ln) ∙ sym (drop-drop 1 i new) ∙ ap (drop 1) h.rest ∙ drop-drop 1 i old;
       })
 
-  pub stands_blocks : (r : Roll P) (f : Phase) (calls : List Call) → Stands opens steps ends p size r f calls → All (Bytes 64) (daybook size calls).standing
+  pub stands_blocks : (r : Roll P) (f : Phase) (calls : List Call) → Stands opens steps ends p size r f calls → AllByRecursion (Bytes 64) (daybook size calls).standing
   stands_blocks (Open o) f calls h = h.1.keeps.blocks
   stands_blocks (Saved o t) f calls h = h.1.keeps.blocks
   stands_blocks (Closed c) f calls h = h.1.keeps.blocks

@@ -1,6 +1,6 @@
 -- The theorem over every row of requests on a new roll.
 use Rattle.std.specs.Prelude.{◌≡◌, ℕ, cond, List, ◌++◌, length, drop, Ok, Err, Result, nat_lt}
-use Rattle.std.specs.List.{AllByRecursion as All}
+use Rattle.std.specs.List.{AllByRecursion}
 use Rattle.byte_strings.specs.Bytes.{Bytes}
 use Rattle.refusals.specs.Refusals.{number, size_refusal}
 use Rattle.press.specs.declared.Declined.{Declined}
@@ -15,7 +15,7 @@ use Rattle.replay.specs.declared.request.Reading.{Reading}
 pub record Told (opens : ℕ → List ℕ) (steps : List ℕ → List ℕ → List ℕ) (ends : ℕ → List ℕ) (size : ℕ) (qs : List Request) (old new : List Answer) (x : Reading) : Type 0 where
   pub answers : new ≡ (heard size qs).answers ++ drop (length qs) old
   -- each standing passage has 64 bytes
-  pub blocks : All (Bytes 64) (daybook size (heard size qs).calls).standing
+  pub blocks : AllByRecursion (Bytes 64) (daybook size (heard size qs).calls).standing
   pub reading : x ≡ reading_at opens steps ends (heard size qs).phase (daybook size (heard size qs).calls)
 
 -- the number of the refusal: fewer answers than requests, or a size that is none of the four

@@ -1,6 +1,6 @@
 // A saved text, written.
 ghost use Rattle.std.specs.Prelude.{◌≡◌, ◌≤◌, ◌++◌, length, take, Ok, codes};
-ghost use Rattle.std.specs.List.{flat_map, AllByRecursion as All};
+ghost use Rattle.std.specs.List.{flat_map, AllByRecursion};
 ghost use Rattle.byte_strings.specs.Bytes.{Bytes};
 ghost use Rattle.passages.specs.Rows.{encoded_all};
 ghost use Rattle.fields.specs.Texts.{written};
@@ -72,7 +72,7 @@ fn push_passage(text: &mut Text<MOST>, block: &Block)
 // Adds the lines of the passages, oldest first.
 fn push_passages(text: &mut Text<MOST>, passages: &[Passage])
     ensures bytes { written capacity text.new ≡ take capacity (written capacity text.old ++ flat_map pass_text (encoded_all passages.now)) }
-    ensures wide { All (Bytes 64) (encoded_all passages.now) }
+    ensures wide { AllByRecursion (Bytes 64) (encoded_all passages.now) }
 {
     for passage in passages {
         push_passage(text, &passage.encode());

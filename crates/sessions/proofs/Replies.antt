@@ -1,22 +1,21 @@
 -- A request that makes a call: the answer, and the course after it.
-use Rattle.std.proofs.Common.{◌≡◌, ℕ, Bool, true, false, cond, eqb, List, [], ◌∷◌, ◌++◌, fold, sym, refl, ap, ◌∙◌, subst, arith}
+use Rattle.std.proofs.Common.{◌≡◌, ℕ, Bool, true, false, cond, eqb, List, [], ◌∷◌, ◌++◌, sym, refl, ap, ◌∙◌, subst, arith}
 use Rattle.std.proofs.lemmas.List.Sums.{fold_push}
 use Rattle.refusals.specs.Sizes.{bits_in}
-use Rattle.daybook.specs.Daybook.{Call, Daybook, daybook, next, unwritten, refusal, next_out}
+use Rattle.daybook.specs.Daybook.{Call, daybook, next, unwritten, refusal, next_out}
 use Rattle.daybook.specs.Daybook.Call.{passing, cancelling, shipping, closing}
-use Rattle.replay.specs.Heard.{Phase, opened, shut, Turn, turn, turn_open, turn_shut, answered, digest_at}
+use Rattle.replay.specs.Heard.{opened, shut, Turn, turn_open, turn_shut, answered, digest_at}
 use Rattle.replay.specs.Stands.{Stands}
-use Rattle.replay.specs.declared.roll.Roll.{Roll}
 use Rattle.replay.specs.declared.request.Request.{Request}
 use Rattle.replay.specs.declared.request.Answer.{Answer}
 use Rattle.replay.specs.declared.request.Answer.TheVariants.{Done, Refused, Shipped}
 use Rattle.requests.specs.declared.request.LineRequest.{LineRequest}
 use Rattle.requests.specs.declared.request.LineRequest.TheVariants.{Open, Pass, Cancel, Ship, Close, Reopen, Total}
-use Rattle.answers.specs.Said.{Said, said}
-use Rattle.answers.specs.Said.Said.{done, refused, closed}
+use Rattle.answers.specs.Said.{said}
+use Rattle.answers.specs.Said.Said.{refused, closed}
 use Rattle.answers.specs.declared.answer.LineAnswer.{LineAnswer}
 use Rattle.sessions.specs.Courses.{RollCourse, open_roll, closed_roll, unless, open_says, open_next, closed_says, closed_next, roll_says, roll_next}
-use Rattle.sessions.specs.Told.{told, makes_call, open_turn, shut_turn, Calls, Makes, TellsClose}
+use Rattle.sessions.specs.Told.{told, makes_call, open_turn, shut_turn, Makes, TellsClose}
 use Rattle.sessions.specs.Sessions.{Functions, meant, Holds}
 use Rattle.sessions.specs.declared.state.SizedRoll.{SizedRoll}
 

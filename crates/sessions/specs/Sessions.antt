@@ -3,16 +3,13 @@ use Rattle.std.specs.Prelude.{◌≡◌, ℕ, false, List, [], Ok, Err, Option, 
 use Rattle.refusals.specs.Refusals.{number, size_refusal}
 use Rattle.press.specs.declared.Declined.{Declined}
 use Rattle.refusals.specs.Sizes.{bits_in}
-use Rattle.daybook.specs.Daybook.{Call, daybook}
-use Rattle.replay.specs.Heard.{Phase, opened, shut}
+use Rattle.replay.specs.Heard.{opened, shut}
 use Rattle.replay.specs.Stands.{Stands}
-use Rattle.replay.specs.declared.roll.Roll.{Roll}
-use Rattle.requests.specs.declared.request.PressName.{PressName}
 use Rattle.requests.specs.declared.request.PressName.TheVariants.{Jh, Drill}
 use Rattle.requests.specs.declared.request.LineRequest.{LineRequest}
-use Rattle.answers.specs.Said.{Said, said}
+use Rattle.answers.specs.Said.{said}
 use Rattle.answers.specs.declared.answer.LineAnswer.{LineAnswer}
-use Rattle.sessions.specs.Courses.{Meaning, by_name, RollCourse, Course, open_roll, closed_roll, no_roll, on, roll_says, roll_next, says, next_course, line_says, line_next, totalled}
+use Rattle.sessions.specs.Courses.{Meaning, by_name, RollCourse, Course, open_roll, closed_roll, no_roll, on, roll_says, roll_next, says, next_course, line_says, line_next}
 use Rattle.sessions.specs.Told.{makes_call}
 use Rattle.sessions.specs.declared.state.SizedRoll.{SizedRoll}
 use Rattle.sessions.specs.declared.state.Session.{Session}

@@ -1,5 +1,5 @@
 -- The report of a message, line by line.
-use Rattle.std.proofs.Common.{◌≡◌, ℕ, ◌+◌, ◌-◌, ◌*◌, ◌/◌, ◌^◌, ◌≤◌, Bool, true, false, ltb, List, [], ◌∷◌, ◌++◌, length, take, drop, decimal, Result, sym, refl, ap, ◌∙◌, subst, ap₂, zero-add, arith, lit≤, MatchResult}
+use Rattle.std.proofs.Common.{◌≡◌, ℕ, ◌+◌, ◌*◌, ◌/◌, ◌^◌, ◌≤◌, Bool, true, false, ltb, List, [], ◌∷◌, ◌++◌, length, take, drop, decimal, Result, sym, refl, ap, ◌∙◌, ap₂, arith, lit≤, MatchResult}
 use Rattle.std.specs.Fmt.{digits}
 use Rattle.std.proofs.lemmas.List.{length-append, length-drop, take_at, take_all}
 use Rattle.std.proofs.lemmas.Bool.{cond-true, cond-false}

@@ -1,17 +1,17 @@
 -- A text that is accepted is the text of a valid roll, which is what was read.
-use Rattle.std.proofs.Common.{◌≡◌, ℕ, zero, suc, ◌+◌, ◌≤◌, true, eqb, List, [], ◌∷◌, ◌++◌, length, Ok, Err, codes, decimal, sym, refl, ap, ◌∙◌, subst, append_assoc, arith}
-use Rattle.std.specs.List.{flat_map, AllByRecursion as All}
+use Rattle.std.proofs.Common.{◌≡◌, ℕ, zero, suc, ◌+◌, ◌≤◌, true, eqb, List, [], ◌∷◌, ◌++◌, length, Ok, codes, decimal, sym, refl, ap, ◌∙◌, subst, append_assoc, arith}
+use Rattle.std.specs.List.{flat_map, AllByRecursion}
 use Rattle.std.proofs.lemmas.List.{append-nil, nil_from_length}
 use Rattle.std.proofs.lemmas.Bool.{and_from, eqb-true}
 use Rattle.byte_strings.specs.Bytes.{Bytes}
 use Rattle.passages.specs.Fields.{fits_after, serial_of}
 use Rattle.passages.specs.Rows.{in_order}
 use Rattle.fields.specs.Hex.{hex_of}
-use Rattle.fields.specs.Faults.{Read, number_at, bytes_at}
+use Rattle.fields.specs.Faults.{number_at, bytes_at}
 use Rattle.text_laws.specs.Lines.{LineFields, roll_line, chain_line, pass_line, first_line}
 use Rattle.text_laws.specs.Values.{Numbers, are_valid, numbers_of, chain_of, passage_of}
-use Rattle.text_laws.specs.Saved.{Saved, saved, line_at, passages, read_text}
-use Rattle.text_laws.specs.Written.{hex_line, pass_text, numbers_text, numbers_in, text_telling, text_of}
+use Rattle.text_laws.specs.Saved.{saved, line_at, passages}
+use Rattle.text_laws.specs.Written.{hex_line, pass_text, numbers_text, text_telling, text_of}
 use Rattle.text_laws.specs.Valid.{Valid}
 use Rattle.text_laws.specs.Laws.{ReadSaves}
 use Rattle.text_laws.proofs.Fields.{number_back, bytes_back}
@@ -76,7 +76,7 @@ first_passage k before t p h =
     (l.1 ∙ x.0, x.1, x.2)
 
 passages_back : (n k before : ℕ) (got : List (List ℕ)) (t : List ℕ) (w : List (List ℕ)) → passages n k before got t ≡ Ok w
-    → (ms : List (List ℕ)) × (got ++ ms ≡ w) × (length ms ≡ n) × (t ≡ flat_map pass_text ms) × All (Bytes 64) ms × (in_order before ms ≡ true)
+    → (ms : List (List ℕ)) × (got ++ ms ≡ w) × (length ms ≡ n) × (t ≡ flat_map pass_text ms) × AllByRecursion (Bytes 64) ms × (in_order before ms ≡ true)
 passages_back zero k before got t w r =
     let x = cond_ok (eqb (length t) 0) got w (14, k) r in
     ([], append-nil got ∙ x.1, refl, nil_from_length t (eqb-true _ _ x.0), tt, refl)
@@ -87,7 +87,7 @@ passages_back (suc n) k before got t w r =
     let y = passages_back n (k + 1) (serial_of x.0.0) (got ++ (x.0.0 ∷ [])) x.0.1 w x.2 in
     (m ∷ y.0, sym (append_assoc got (m ∷ []) y.0) ∙ y.1, ap suc y.2, f.0 ∙ ap (λ u. pass_text m ++ u) y.3, (f.1, y.4), and_from (fits_after before m) _ f.2 y.5)
 
-pub saved_valid : (n : Numbers) (c : List ℕ) (w : List (List ℕ)) → ValidNumbers n → length w ≤ n.window → Bytes 128 c → All (Bytes 64) w → in_order n.last w ≡ true → Valid (saved n c w)
+pub saved_valid : (n : Numbers) (c : List ℕ) (w : List (List ℕ)) → ValidNumbers n → length w ≤ n.window → Bytes 128 c → AllByRecursion (Bytes 64) w → in_order n.last w ≡ true → Valid (saved n c w)
 saved_valid n c w s e b a o =
     let few = s.few in
     let most = s.most in

@@ -1,6 +1,6 @@
 -- The lines before a refused one are as in the text of a valid roll.
-use Rattle.std.proofs.Common.{◌≡◌, ℕ, zero, suc, ◌+◌, ◌-◌, ◌≤◌, true, eqb, List, [], ◌∷◌, ◌++◌, length, replicate, Ok, Err, codes, sym, refl, ap, ◌∙◌, subst, ⊎_elim, append_assoc, arith, length-append}
-use Rattle.std.specs.List.{flat_map, AllByRecursion as All}
+use Rattle.std.proofs.Common.{◌≡◌, ℕ, zero, suc, ◌+◌, ◌-◌, ◌≤◌, true, eqb, List, [], ◌∷◌, ◌++◌, length, replicate, Err, codes, sym, refl, ap, ◌∙◌, subst, ⊎_elim, append_assoc, arith, length-append}
+use Rattle.std.specs.List.{flat_map, AllByRecursion}
 use Rattle.std.proofs.lemmas.List.{append-nil}
 use Rattle.std.proofs.ByRecursion.{All-append}
 use Rattle.std.proofs.lemmas.Bool.{and_from}
@@ -8,23 +8,21 @@ use Rattle.byte_strings.specs.Bytes.{Bytes}
 use Rattle.byte_strings.proofs.Strings.{small_zeros}
 use Rattle.passages.specs.Fields.{serial_of, fits_after}
 use Rattle.passages.specs.Rows.{in_order, last_serial}
-use Rattle.fields.specs.Faults.{Read}
 use Rattle.fields.specs.Hex.{hex_of}
 use Rattle.text_laws.specs.Lines.{first_line}
 use Rattle.text_laws.specs.Values.{Numbers, numbers_of, chain_of, passage_of}
-use Rattle.text_laws.specs.Saved.{Saved, saved, line_at, passages, read_text}
-use Rattle.text_laws.specs.Written.{hex_line, pass_text, numbers_text, text_of}
+use Rattle.text_laws.specs.Saved.{saved, line_at, passages, read_text}
+use Rattle.text_laws.specs.Written.{hex_line, pass_text, numbers_text}
 use Rattle.text_laws.specs.FirstLines.{first_lines}
 use Rattle.text_laws.specs.Laws.{Begins, RefusedStands}
-use Rattle.text_laws.specs.Valid.{Valid}
 use Rattle.text_laws.proofs.Inverts.{then_err, ok_err}
 use Rattle.text_laws.proofs.Fields.{lacks_hex}
 use Rattle.text_laws.proofs.Lines.{line_text}
-use Rattle.text_laws.proofs.Numbers.{ValidNumbers, Small, small, numbers_valid}
+use Rattle.text_laws.proofs.Numbers.{ValidNumbers, small, numbers_valid}
 use Rattle.text_laws.proofs.Forth.{text_forth, numbers_line, numbers_split, numbers_lack, hex_split}
 use Rattle.text_laws.proofs.Back.{first_numbers, first_chain, first_passage, saved_valid, saved_text}
 use Rattle.text_laws.proofs.FirstLines.{lines_after}
-use Rattle.text_laws.proofs.Depends.{At, at_cond, at_first, at_numbers, at_chain, at_passage, read_err, text_depends}
+use Rattle.text_laws.proofs.Depends.{at_cond, at_first, at_numbers, at_chain, at_passage, read_err, text_depends}
 use Rattle.text_laws.proofs.Fillers.{fillers, length_fillers, fillers_stand, in_order_append}
 
 -- a line written, and the first j lines of what follows
@@ -55,7 +53,7 @@ passes_lines (m ∷ ms) rest =
 
 -- the passages that were read before the refusal
 passages_begin : (n k before : ℕ) (got : List (List ℕ)) (t : List ℕ) (e : ℕ × ℕ) → passages n k before got t ≡ Err e
-    → (ms : List (List ℕ)) × (length ms ≤ n) × (e.1 ≡ k + length ms) × (first_lines (length ms) t ≡ flat_map pass_text ms) × All (Bytes 64) ms × (in_order before ms ≡ true)
+    → (ms : List (List ℕ)) × (length ms ≤ n) × (e.1 ≡ k + length ms) × (first_lines (length ms) t ≡ flat_map pass_text ms) × AllByRecursion (Bytes 64) ms × (in_order before ms ≡ true)
 passages_begin zero k before got t e h =
     let a = at_cond 14 k (eqb (length t) 0) got e h in
     ([], omega arith, omega (arith, a), refl, tt, refl)
@@ -82,7 +80,7 @@ joined_append [] ks = refl
 joined_append (m ∷ ms) ks = ap (λ u. pass_text m ++ u) (joined_append ms ks) ∙ sym (append_assoc (pass_text m) (flat_map pass_text ms) (flat_map pass_text ks))
 
 -- a text whose lines before line k are those of numbers, a chain value and passages, whatever follows them
-begin : (t : List ℕ) (k : ℕ) (n : Numbers) (c : List ℕ) (ms : List (List ℕ)) → ValidNumbers n → Bytes 128 c → All (Bytes 64) ms → in_order n.last ms ≡ true → length ms ≤ n.window
+begin : (t : List ℕ) (k : ℕ) (n : Numbers) (c : List ℕ) (ms : List (List ℕ)) → ValidNumbers n → Bytes 128 c → AllByRecursion (Bytes 64) ms → in_order n.last ms ≡ true → length ms ≤ n.window
     → ((rest : List ℕ) → first_lines (k - 1) (numbers_text n ++ (hex_line (codes "chain") c ++ (flat_map pass_text ms ++ rest))) ≡ first_lines (k - 1) t) → Begins t k
 begin t k n c ms s b a o l lines =
     record {
@@ -127,7 +125,7 @@ begin_second t k n rest e f s =
     (λ more. numbers_lines n 0 (hex_line (codes "chain") (replicate 128 0) ++ ([] ++ more)) s ∙ sym (ap (first_lines 1) f ∙ numbers_lines n 0 rest s)))
 
 begin_later : (t : List ℕ) (k : ℕ) (n : Numbers) (c : List ℕ) (ms : List (List ℕ)) (t1 t2 : List ℕ) → k ≡ 3 + length ms → t ≡ numbers_text n ++ t1 → t1 ≡ hex_line (codes "chain") c ++ t2
-    → first_lines (length ms) t2 ≡ flat_map pass_text ms → ValidNumbers n → Bytes 128 c → All (Bytes 64) ms → in_order n.last ms ≡ true → length ms ≤ n.window → Begins t k
+    → first_lines (length ms) t2 ≡ flat_map pass_text ms → ValidNumbers n → Bytes 128 c → AllByRecursion (Bytes 64) ms → in_order n.last ms ≡ true → length ms ≤ n.window → Begins t k
 begin_later t k n c ms t1 t2 e f g h s b a o l =
     let j : k - 1 ≡ suc (suc (length ms)) = omega (arith, e) in
     let P : ℕ → Type 0 = λ i. (rest : List ℕ) → first_lines i (numbers_text n ++ (hex_line (codes "chain") c ++ (flat_map pass_text ms ++ rest))) ≡ first_lines i t in

@@ -7,7 +7,7 @@ use Rattle.fields.specs.Hex.{read_hex}
 use Rattle.fields.specs.Faults.{Read, at_line, not_of_form, number_at, bytes_at}
 use Rattle.text_laws.specs.Lines.{LineFields, roll_line, chain_line, pass_line, first_line}
 use Rattle.text_laws.specs.Values.{Numbers, then_read, are_valid, numbers_of, chain_of, passage_of}
-use Rattle.text_laws.specs.Saved.{Saved, saved, line_at, passages, read_text}
+use Rattle.text_laws.specs.Saved.{saved, line_at, passages, read_text}
 use Rattle.text_laws.specs.FirstLines.{first_lines}
 use Rattle.text_laws.specs.Laws.{Depends}
 use Rattle.text_laws.proofs.Inverts.{err_inj, ok_err}

@@ -1,9 +1,9 @@
 -- Decimal and hexadecimal fields, written and read.
-use Rattle.std.proofs.Common.{◌≡◌, ℕ, ◌+◌, ◌-◌, ◌*◌, ◌/◌, ◌%◌, ◌^◌, ◌<◌, ◌≤◌, Bool, true, false, cond, not, ◌&&◌, ◌||◌, eqb, ltb, leb, List, [], ◌∷◌, ◌++◌, length, get_or, Some, None, Ok, Err, decimal, sym, refl, ap, ◌∙◌, subst, ⊎_elim, arith, rules}
+use Rattle.std.proofs.Common.{◌≡◌, ℕ, ◌+◌, ◌-◌, ◌*◌, ◌/◌, ◌%◌, ◌^◌, ◌<◌, true, cond, not, ◌&&◌, ◌||◌, eqb, List, [], ◌∷◌, length, get_or, Some, None, Ok, decimal, sym, refl, ap, ◌∙◌, subst, ⊎_elim, arith, rules}
 use native.Mathlib.Nat.{div-add-mod}
 use Rattle.std.specs.Char.{is_ascii_digit}
 use Rattle.std.specs.Str.{all_ascii_digits}
-use Rattle.std.specs.List.{AllByRecursion as All}
+use Rattle.std.specs.List.{AllByRecursion}
 use Rattle.std.proofs.lemmas.Str.Parse.{IsNumeralModel, numerals_by_fold, digits_value_short}
 use Rattle.std.proofs.lemmas.Fmt.{digits_decimal, digits_value-decimal, length-decimal-le, decimal_nonempty, first_decimal, decimal_digit, decimal-digits_value}
 use Rattle.std.proofs.lemmas.Bool.{le-leb, and_parts, and_from, or_left, or_right, eq-eqb, ne_eqb, cases_eq, eqb-true, leb-true, not_from_false, both_ways, not-true, or_cases}
@@ -12,7 +12,7 @@ use Rattle.byte_strings.specs.Bytes.{Bytes}
 use Rattle.byte_strings.proofs.Strings.{all_bytes, bytes_all}
 use Rattle.fields.specs.Decimals.{is_decimal, read_on}
 use Rattle.fields.specs.Hex.{is_hex_digit, all_hex, nibble, hex_digit, hex_of, bytes_of}
-use Rattle.fields.specs.Faults.{Read, number_at, bytes_at, at_line}
+use Rattle.fields.specs.Faults.{number_at, bytes_at, at_line}
 use Rattle.fields.proofs.Texts.{length_hex}
 use Rattle.text_laws.proofs.Cuts.{lacks}
 use Rattle.text_laws.proofs.Inverts.{read_ok}
@@ -84,7 +84,7 @@ nibble_forth n h = (grind (arith, nat_tests), grind (arith, nat_tests))
 nibble_back : (a : ℕ) → is_hex_digit a ≡ true → (nibble a < 16) × (hex_digit (nibble a) ≡ a)
 nibble_back a h = (grind (arith, nat_tests), grind (arith, nat_tests))
 
-hex_forth : (p : List ℕ) → All (λ x. x < 256) p → (all_hex (hex_of p) ≡ true) × (bytes_of (hex_of p) ≡ p)
+hex_forth : (p : List ℕ) → AllByRecursion (λ x. x < 256) p → (all_hex (hex_of p) ≡ true) × (bytes_of (hex_of p) ≡ p)
 hex_forth [] h = (refl, refl)
 hex_forth (x ∷ p) h =
     let small = h.0 in
@@ -102,7 +102,7 @@ hex_pair a b ha hb =
     let r : (16 * nibble a + nibble b) % 16 ≡ nibble b = omega (arith, na.0, nb.0) in
     (ap hex_digit q ∙ na.1, ap hex_digit r ∙ nb.1)
 
-hex_back : (n : ℕ) (ds : List ℕ) → length ds ≡ 2 * n → all_hex ds ≡ true → (hex_of (bytes_of ds) ≡ ds) × (length (bytes_of ds) ≡ n) × All (λ x. x < 256) (bytes_of ds)
+hex_back : (n : ℕ) (ds : List ℕ) → length ds ≡ 2 * n → all_hex ds ≡ true → (hex_of (bytes_of ds) ≡ ds) × (length (bytes_of ds) ≡ n) × AllByRecursion (λ x. x < 256) (bytes_of ds)
 hex_back n [] l h = (refl, omega arith, tt)
 hex_back n (a ∷ []) l h = absurd (omega arith)
 hex_back n (a ∷ (b ∷ ds)) l h =

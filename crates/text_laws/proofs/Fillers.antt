@@ -1,6 +1,6 @@
 -- Passages that may follow any other: each serial is one above the one before.
-use Rattle.std.proofs.Common.{◌≡◌, ℕ, zero, suc, ◌+◌, ◌*◌, ◌/◌, ◌%◌, ◌<◌, ◌≤◌, true, ◌&&◌, List, [], ◌∷◌, ◌++◌, length, replicate, sym, refl, ap, ◌∙◌, subst, arith, lit<}
-use Rattle.std.specs.List.{AllByRecursion as All}
+use Rattle.std.proofs.Common.{◌≡◌, ℕ, zero, suc, ◌+◌, ◌/◌, ◌%◌, ◌<◌, ◌≤◌, true, ◌&&◌, List, [], ◌∷◌, ◌++◌, length, replicate, refl, ap, ◌∙◌, arith, lit<}
+use Rattle.std.specs.List.{AllByRecursion}
 use Rattle.std.proofs.lemmas.Bool.{and_parts, and_from, lt-ltb}
 use Rattle.byte_strings.specs.Bytes.{Bytes}
 use Rattle.byte_strings.proofs.Strings.{bytes_all}
@@ -23,7 +23,7 @@ length_fillers (suc k) n = ap suc (length_fillers k (n + 1))
 serial_filler : (n : ℕ) → serial_of (filler n) ≡ n
 serial_filler n = omega arith
 
-zeros_small : (n : ℕ) → All (λ b. b < 256) (replicate n 0)
+zeros_small : (n : ℕ) → AllByRecursion (λ b. b < 256) (replicate n 0)
 zeros_small zero = tt
 zeros_small (suc n) = (lit< tt, zeros_small n)
 
@@ -60,7 +60,7 @@ filler_fits n =
     let e = serial_filler (n + 1) in
     and_from _ (formed (filler (n + 1)) && priced (filler (n + 1))) (lt-ltb n (serial_of (filler (n + 1))) (omega (arith, e))) refl
 
-pub fillers_stand : (k n : ℕ) → n + k ≤ 4294967295 → All (Bytes 64) (fillers k n) × (in_order n (fillers k n) ≡ true)
+pub fillers_stand : (k n : ℕ) → n + k ≤ 4294967295 → AllByRecursion (Bytes 64) (fillers k n) × (in_order n (fillers k n) ≡ true)
 fillers_stand zero n h = (tt, refl)
 fillers_stand (suc k) n h =
     let r = fillers_stand k (n + 1) (omega (arith, h)) in (

@@ -1,6 +1,6 @@
 -- The text of a valid roll reads as that roll.
-use Rattle.std.proofs.Common.{◌≡◌, ℕ, suc, ◌+◌, true, List, [], ◌∷◌, ◌++◌, length, Some, None, Ok, Err, codes, decimal, sym, refl, ap, ◌∙◌, append_assoc, arith}
-use Rattle.std.specs.List.{flat_map, AllByRecursion as All}
+use Rattle.std.proofs.Common.{◌≡◌, ℕ, ◌+◌, true, List, [], ◌∷◌, ◌++◌, length, Some, Ok, codes, decimal, sym, refl, ap, ◌∙◌, append_assoc, arith}
+use Rattle.std.specs.List.{flat_map, AllByRecursion}
 use Rattle.std.proofs.lemmas.List.{append-nil}
 use Rattle.std.proofs.lemmas.Bool.{and_parts}
 use Rattle.byte_strings.specs.Bytes.{Bytes}
@@ -10,7 +10,7 @@ use Rattle.fields.specs.Hex.{hex_of}
 use Rattle.fields.specs.Faults.{Read}
 use Rattle.text_laws.specs.Lines.{LineFields, roll_line, chain_line, pass_line, first_line}
 use Rattle.text_laws.specs.Values.{Numbers, then_read, are_valid, numbers_of, chain_of, passage_of}
-use Rattle.text_laws.specs.Saved.{Saved, passages, read_text}
+use Rattle.text_laws.specs.Saved.{Saved, passages}
 use Rattle.text_laws.specs.Written.{hex_line, pass_text, numbers_text, numbers_in, text_of}
 use Rattle.text_laws.specs.Valid.{Valid}
 use Rattle.text_laws.specs.Laws.{SavedReads}
@@ -67,7 +67,7 @@ pass_first m rest =
 pass_read : (k before : ℕ) (m : List ℕ) → Bytes 64 m → fits_after before m ≡ true → passage_of k before (pass_line (hex_of m)) ≡ Ok m
 pass_read k before m b o = rw (bytes_forth k 64 m b) (rw o refl)
 
-passages_forth : (ms : List (List ℕ)) (k before : ℕ) (got : List (List ℕ)) → All (Bytes 64) ms → in_order before ms ≡ true
+passages_forth : (ms : List (List ℕ)) (k before : ℕ) (got : List (List ℕ)) → AllByRecursion (Bytes 64) ms → in_order before ms ≡ true
     → passages (length ms) k before got (flat_map pass_text ms) ≡ Ok (got ++ ms)
 passages_forth [] k before got b o = ap (λ (g : List (List ℕ)). Ok g) (sym (append-nil got))
 passages_forth (m ∷ ms) k before got b o =

@@ -1,9 +1,8 @@
 -- The lines of a saved text, written and read.
-use Rattle.std.proofs.Common.{◌≡◌, ℕ, true, false, cond, List, [], ◌∷◌, ◌++◌, Some, None, Ok, Err, codes, Option, sym, refl, ap, ◌∙◌, ⊎_elim, append_assoc}
+use Rattle.std.proofs.Common.{◌≡◌, ℕ, true, false, List, ◌∷◌, ◌++◌, Some, None, Ok, codes, Option, refl, ap, ◌∙◌, ⊎_elim}
 use Rattle.std.specs.Str.{bytes_eq}
 use Rattle.std.proofs.lemmas.Slice.Eq.{bytes_eq-Decides}
 use Rattle.std.proofs.lemmas.Bool.{cases_Bool}
-use Rattle.fields.specs.Cuts.{cut_at}
 use Rattle.fields.specs.Faults.{Read}
 use Rattle.fields.specs.Options.{and_then}
 use Rattle.text_laws.specs.Lines.{LineFields, roll_line, chain_line, pass_line, roll_of, by_word, line_of, first_line}

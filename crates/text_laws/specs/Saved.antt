@@ -1,5 +1,5 @@
 -- A whole saved text, read line by line.
-use Rattle.std.specs.Prelude.{ℕ, zero, suc, ◌+◌, cond, List, [], ◌∷◌, ◌++◌, length, Some, None, Ok, Err, Option, ◌==◌}
+use Rattle.std.specs.Prelude.{ℕ, zero, suc, ◌+◌, cond, List, [], ◌∷◌, ◌++◌, length, Some, None, Ok, Option, ◌==◌}
 use Rattle.passages.specs.Fields.{serial_of}
 use Rattle.fields.specs.Faults.{Read, not_of_form}
 use Rattle.text_laws.specs.Lines.{LineFields, first_line}

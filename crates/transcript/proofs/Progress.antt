@@ -1,13 +1,13 @@
 -- Part of a text is answered.
-use Rattle.std.proofs.Common.{◌≡◌, ℕ, ◌+◌, ◌<◌, ◌≤◌, List, [], ◌∷◌, ◌++◌, length, take, Some, None, Ok, Err, vec_items, vec_capacity, Result, Vec, sym, refl, ap, ◌∙◌, append_assoc, append-nil, arith, length-append}
+use Rattle.std.proofs.Common.{◌≡◌, ℕ, ◌+◌, ◌<◌, ◌≤◌, List, [], ◌++◌, length, take, Some, None, Ok, Err, vec_items, vec_capacity, Result, Vec, sym, refl, ap, ◌∙◌, append_assoc, append-nil, arith, length-append}
 use Rattle.std.proofs.lemmas.List.{take_at}
 use Rattle.std.specs.declared.alloc.AllocError.{AllocError}
 use Rattle.std.specs.declared.alloc.Global.{Global}
 use Rattle.fields.specs.Cuts.{cut_at}
 use Rattle.requests.specs.Requests.{request_of}
-use Rattle.answers.specs.Said.{Said, said, line_of}
+use Rattle.answers.specs.Said.{said, line_of}
 use Rattle.answers.specs.declared.answer.LineAnswer.{LineAnswer}
-use Rattle.sessions.specs.Courses.{Course, by_name, line_says, line_next, not_allowed}
+use Rattle.sessions.specs.Courses.{Course, by_name, line_next, not_allowed}
 use Rattle.sessions.specs.Sessions.{Functions, meant, CameBy, GoesOn}
 use Rattle.sessions.specs.declared.state.Session.{Session}
 use Rattle.transcript.specs.Output.{requests, answers_on, Added, Fronted}

@@ -1,4 +1,4 @@
-use Rattle.std.proofs.Common.{◌≡◌, ◌∙◌, arith}
+use Rattle.std.proofs.Common.{◌∙◌, arith}
 use Rattle.byte_strings.proofs.Xored.{mask_more, mask_all}
 use Rattle.byte_strings.proofs.xor_into.Goals as goal
 

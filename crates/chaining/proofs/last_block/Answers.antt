@@ -1,4 +1,4 @@
-use Rattle.std.proofs.Common.{◌≡◌, ◌*◌, List, ◌∷◌, ◌++◌, replicate, ap, ◌∙◌, div-one}
+use Rattle.std.proofs.Common.{◌≡◌, ◌*◌, ◌∷◌, ◌++◌, replicate, ap, ◌∙◌, div-one}
 use Rattle.std.proofs.lemmas.List.{append-nil}
 use Rattle.byte_strings.specs.Bytes.{big_endian}
 use Rattle.jh.specs.Compression.{ending_block}

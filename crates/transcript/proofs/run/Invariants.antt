@@ -1,7 +1,5 @@
-use Rattle.std.proofs.Common.{◌≡◌, ℕ, ◌≤◌, List, ◌++◌, length, vec_items, vec_capacity}
-use Rattle.sessions.specs.Courses.{Course, by_name}
-use Rattle.sessions.specs.Sessions.{functions, meant, CameBy}
-use Rattle.transcript.specs.Output.{answers_on, requests}
+use Rattle.std.proofs.Common.{length}
+use Rattle.sessions.specs.Sessions.{functions}
 use Rattle.transcript.proofs.Progress.{CameTo}
 use Rattle.transcript.proofs.run.Given as goal
 

@@ -1,4 +1,4 @@
-use Rattle.std.proofs.Common.{◌≡◌, ℕ, ◌+◌, ◌<◌, List, ◌++◌, length, take, vec_items, vec_capacity, refl, ap, ◌∙◌, subst}
+use Rattle.std.proofs.Common.{ℕ, ◌+◌, ◌<◌, List, ◌++◌, length, take, vec_items, vec_capacity, refl, ap, ◌∙◌, subst}
 use Rattle.sessions.specs.Courses.{by_name, no_roll}
 use Rattle.sessions.specs.Sessions.{functions, meant}
 use Rattle.transcript.specs.Output.{answers_on, requests}

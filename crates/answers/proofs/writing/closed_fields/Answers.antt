@@ -1,4 +1,4 @@
-use Rattle.std.proofs.Common.{◌≡◌, ◌-◌, ◌/◌, [], ◌∷◌, ◌++◌, length, take, codes, ap, ◌∙◌, arith}
+use Rattle.std.proofs.Common.{◌≡◌, ◌-◌, ◌/◌, [], ◌∷◌, ◌++◌, take, codes, ap, ◌∙◌, arith}
 use Rattle.fields.specs.Texts.{written}
 use Rattle.answers.specs.Said.{capacity}
 use Rattle.std.proofs.lemmas.List.{length-take-le}

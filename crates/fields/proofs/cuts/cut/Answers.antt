@@ -1,8 +1,8 @@
-use Rattle.std.proofs.Common.{◌≡◌, ℕ, ◌+◌, ◌<◌, length, take, drop, sym, ap, ◌∙◌, arith, rules}
+use Rattle.std.proofs.Common.{◌<◌, length, arith}
 use native.Mathlib.Nat.{sub-zero}
 use Rattle.std.proofs.lemmas.List.{take_rest}
 use Rattle.std.proofs.lemmas.Bool.{lt-ltb}
-use Rattle.fields.specs.Cuts.{up_to, cut_at}
+use Rattle.fields.specs.Cuts.{up_to}
 use Rattle.fields.proofs.cuts.cut.Goals as goal
 
 pub returns-then-n-s : goal.returns-then-n-s

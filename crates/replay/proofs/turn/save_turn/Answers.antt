@@ -1,6 +1,5 @@
 use Rattle.std.proofs.Common.{ℕ, Bool, cond, eqb, Ok, Err, sym, ap, ◌∙◌}
-use Rattle.refusals.specs.Refusals.{number}
-use Rattle.daybook.specs.Daybook.{daybook, refusal, saved_length}
+use Rattle.daybook.specs.Daybook.{daybook, saved_length}
 use Rattle.daybook.proofs.Courses.{save_goes}
 use Rattle.daybook.proofs.Notes.{length_is}
 use Rattle.rolls.specs.Rolls.{state_of}

@@ -1,10 +1,10 @@
-use Rattle.std.proofs.Common.{◌≡◌, ◌+◌, [], ◌∷◌, ◌++◌, length, sym, ap, ◌∙◌, arith, rules}
+use Rattle.std.proofs.Common.{◌+◌, length, ap, ◌∙◌, arith}
 use Rattle.std.proofs.lemmas.Result.{err_from_is_err_and}
 use Rattle.std.proofs.lemmas.List.{length_push}
 use Rattle.passages.specs.Coding.{encoded}
 use Rattle.window.specs.Listed.{listed}
 use Rattle.saved_text.specs.Views.{view}
-use Rattle.saved_text.proofs.Turns.{pushed, Come, no_line, no_passage, come_on, come_as}
+use Rattle.saved_text.proofs.Turns.{pushed, no_line, no_passage, come_on, come_as}
 use Rattle.saved_text.proofs.reading.read_window.Goals as goal
 
 pub returns-in_err-line : goal.returns-in_err-line

@@ -1,5 +1,5 @@
-use Rattle.std.proofs.Common.{◌≡◌, ◌+◌, List, [], ◌++◌, length, take, sym, ap, ◌∙◌, subst, arith}
-use Rattle.std.specs.List.{flat_map, AllByRecursion as All}
+use Rattle.std.proofs.Common.{List, [], ◌++◌, take, sym, ap, ◌∙◌, subst}
+use Rattle.std.specs.List.{flat_map, AllByRecursion}
 use Rattle.std.proofs.lemmas.List.{take_all, map_more, flat_map_more}
 use Rattle.std.proofs.ByRecursion.{All-push}
 use Rattle.byte_strings.specs.Bytes.{Bytes}
@@ -24,7 +24,7 @@ loop-passage-preserved c =
       then_part capacity old _ _ (flat_map pass_text before) (pass_text c.encode.result) c.loop-passage.invariant.0 c.push_passage.ensures.bytes
           ∙ ap (λ u. take capacity (old ++ u))
           (ap (λ m. flat_map pass_text before ++ pass_text m) c.encode.ensures ∙ flat_map_more pass_text [] before _ ∙ sym (ap (flat_map pass_text) (map_more encoded ps i _ c.loop-passage-test.true))),
-      subst (All (Bytes 64)) (sym (map_more encoded ps i _ c.loop-passage-test.true))
+      subst (AllByRecursion (Bytes 64)) (sym (map_more encoded ps i _ c.loop-passage-test.true))
           (All-push (Bytes 64) before _ c.loop-passage.invariant.1 (subst (Bytes 64) c.encode.ensures c.push_passage.ensures.wide)),
     )
 
@@ -33,5 +33,5 @@ returns c =
     let e = take_all c.loop-passage.passage-index c.args.passages.now c.loop-passage-test.false in
     record {
       bytes = c.loop-passage.invariant.0 ∙ ap (λ ps. take capacity (written capacity c.args.text.now ++ flat_map pass_text (encoded_all ps))) e;
-      wide = subst (λ (ps : List Passage). All (Bytes 64) (encoded_all ps)) e c.loop-passage.invariant.1;
+      wide = subst (λ (ps : List Passage). AllByRecursion (Bytes 64) (encoded_all ps)) e c.loop-passage.invariant.1;
     }

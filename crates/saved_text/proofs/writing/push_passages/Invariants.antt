@@ -1,5 +1,5 @@
 use Rattle.std.proofs.Common.{◌≡◌, ◌++◌, take}
-use Rattle.std.specs.List.{flat_map, AllByRecursion as All}
+use Rattle.std.specs.List.{flat_map, AllByRecursion}
 use Rattle.byte_strings.specs.Bytes.{Bytes}
 use Rattle.passages.specs.Rows.{encoded_all}
 use Rattle.fields.specs.Texts.{written}
@@ -10,4 +10,4 @@ use Rattle.saved_text.proofs.writing.push_passages.Given as goal
 abbrev pub invariant-loop-passage : goal.invariant-loop-passage
 invariant-loop-passage l =
     (written capacity l.text ≡ take capacity (written capacity l.initial.text ++ flat_map pass_text (encoded_all (take l.passage-index l.passages))))
-    × All (Bytes 64) (encoded_all (take l.passage-index l.passages))
+    × AllByRecursion (Bytes 64) (encoded_all (take l.passage-index l.passages))

@@ -1,4 +1,4 @@
-use Rattle.std.proofs.Common.{◌≡◌, ℕ, ◌/◌, List, ◌++◌, length, drop, replicate, ap, ◌∙◌, rules}
+use Rattle.std.proofs.Common.{◌≡◌, ◌/◌, ◌++◌, length, drop, replicate, ap, ◌∙◌, rules}
 use Rattle.refusals.specs.Sizes.{bits_in}
 use Rattle.daybook.specs.Daybook.{daybook, unwritten}
 use Rattle.daybook.proofs.Notes.{size_kept}

@@ -1,4 +1,4 @@
-use Rattle.std.proofs.Common.{◌≡◌, ℕ, ◌-◌, ◌/◌, List, [], ◌∷◌, ◌++◌, length, take, decimal, refl, ap, ◌∙◌, ap₂, arith}
+use Rattle.std.proofs.Common.{◌≡◌, ℕ, ◌-◌, ◌/◌, List, [], ◌∷◌, ◌++◌, take, decimal, refl, ap, ◌∙◌, ap₂, arith}
 use Rattle.fields.specs.Hex.{hex_of}
 use Rattle.fields.specs.Texts.{written}
 use Rattle.fields.proofs.Texts.{then_part}

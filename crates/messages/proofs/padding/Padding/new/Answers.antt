@@ -1,4 +1,4 @@
-use Rattle.std.proofs.Common.{◌≡◌, ◌+◌, ◌-◌, ◌≤◌, ◌∙◌, div-one, arith}
+use Rattle.std.proofs.Common.{◌≡◌, ◌+◌, ◌≤◌, ◌∙◌, div-one, arith}
 use Rattle.byte_strings.specs.Bytes.{big_endian}
 use Rattle.jh.specs.Ending.{zero_bytes}
 use Rattle.messages.proofs.Endings.{ending_written}

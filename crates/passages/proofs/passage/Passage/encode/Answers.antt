@@ -1,4 +1,4 @@
-use Rattle.std.proofs.Common.{◌≡◌, ℕ, ◌+◌, ◌-◌, List, [], ◌∷◌, ◌++◌, length, replicate, refl, ◌∙◌, ap₂, rules}
+use Rattle.std.proofs.Common.{◌≡◌, ℕ, ◌-◌, List, [], ◌∷◌, ◌++◌, length, replicate, refl, ◌∙◌, ap₂, rules}
 use Rattle.byte_strings.specs.Bytes.{big_endian}
 use Rattle.passages.specs.Coding.{put_at}
 use Rattle.passages.proofs.Encodings.{put_next, four, eight, joined_parts}

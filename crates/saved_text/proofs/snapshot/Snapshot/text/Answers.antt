@@ -1,5 +1,5 @@
 use Rattle.std.proofs.Common.{◌++◌, length, take, ap, ◌∙◌, subst, arith}
-use Rattle.std.specs.List.{AllByRecursion as All}
+use Rattle.std.specs.List.{AllByRecursion}
 use Rattle.byte_strings.specs.Bytes.{Bytes}
 use Rattle.passages.specs.Rows.{encoded_all}
 use Rattle.window.proofs.Held.{length_listed}
@@ -13,7 +13,7 @@ use Rattle.saved_text.proofs.snapshot.Snapshot.text.Goals as goal
 pub returns : goal.returns
 returns c =
     let s = saved_in c.args.self.now in
-    let w = wide s c.push_chain.ensures.wide (subst (All (Bytes 64)) c.as_slice.ensures c.push_passages.ensures.wide) in
+    let w = wide s c.push_chain.ensures.wide (subst (AllByRecursion (Bytes 64)) c.as_slice.ensures c.push_passages.ensures.wide) in
     let n = length_numbers (numbers_told (saved_in c.args.self.now)) in
     let head = ap numbers_text c.numbers.ensures in
     let short = c.push_head.ensures.short in
