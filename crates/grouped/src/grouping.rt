@@ -1,13 +1,13 @@
 // A state of 128 bytes as 256 elements, and back.
 ghost use Rattle.std.specs.Prelude.{◌≡◌, ◌<◌};
-ghost use Rattle.jh.specs.Bit.{element as elementBy};
+ghost use Rattle.jh.specs.Bit.{element as element_by};
 ghost use Rattle.jh.specs.Permutation.{byte_bit, element_from, grouped_bit, byte_from};
 ghost use Rattle.jh.specs.Permutation.{group as group_of};
-ghost use Rattle.jh.specs.Permutation.{ungroup as ungroupOf};
+ghost use Rattle.jh.specs.Permutation.{ungroup as ungroup_of};
 
 // An element by its bits, the highest first.
 fn element(a: bool, b: bool, c: bool, d: bool) -> u8
-    ensures value { result ≡ elementBy a b c d }
+    ensures value { result ≡ element_by a b c d }
     ensures small { result < 16 }
 {
     a as u8 * 8 + b as u8 * 4 + c as u8 * 2 + d as u8
@@ -77,7 +77,7 @@ fn byte_at(elements: &[u8; 256], b: usize) -> u8
 
 // The state that the elements were grouped from.
 pub(crate) fn ungroup(elements: &[u8; 256]) -> [u8; 128]
-    ensures { result ≡ ungroupOf elements.now }
+    ensures { result ≡ ungroup_of elements.now }
 {
     let mut state = [0; 128];
     for b in 0..128 {
