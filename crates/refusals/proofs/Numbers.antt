@@ -2,7 +2,7 @@
 use Rattle.std.proofs.Common.{◌≤◌, arith}
 use Rattle.refusals.specs.Refusals.{number}
 use Rattle.refusals.specs.declared.refusal.Refusal.{Refusal}
-use Rattle.refusals.specs.declared.refusal.Refusal.TheVariants.{Size, Bytes, Bits, Buffer, Length, Full, Standing, Serial, Form, Price, Shipped, Unknown, Empty}
+use Rattle.refusals.specs.declared.refusal.Refusal.TheVariants.{Size, Bytes, Bits, Buffer, Length, Full, Standing, Serial, Form, Price, Shipped, Unknown, Empty, Line, Values, Request}
 
 pub positive : (e : Refusal) → 1 ≤ number e
 positive Size = omega arith
@@ -18,3 +18,6 @@ positive Price = omega arith
 positive Shipped = omega arith
 positive Unknown = omega arith
 positive Empty = omega arith
+positive Line = omega arith
+positive Values = omega arith
+positive Request = omega arith

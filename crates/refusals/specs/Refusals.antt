@@ -1,8 +1,9 @@
 -- When a call is refused, by number; 0 where it is accepted. The first sentence that a call meets decides.
-use Rattle.std.specs.Prelude.{ℕ, ◌+◌, ◌*◌, ◌/◌, ◌^◌, Bool, cond, not, ◌&&◌, Ok, Err, Result, ◌==◌, nat_le, nat_lt}
+use Rattle.std.specs.Prelude.{◌≡◌, ℕ, ◌+◌, ◌*◌, ◌/◌, ◌^◌, Bool, cond, not, ◌&&◌, Ok, Err, Result, ◌==◌, nat_le, nat_lt, MatchResult}
 use Rattle.refusals.specs.declared.refusal.Refusal.{Refusal}
-use Rattle.refusals.specs.declared.refusal.Refusal.TheVariants.{Size, Bytes, Bits, Buffer, Length, Full, Standing, Serial, Form, Price, Shipped, Unknown, Empty}
-use Rattle.refusals.specs.Sizes.{is_size}
+use Rattle.refusals.specs.declared.refusal.Refusal.TheVariants.{Size, Bytes, Bits, Buffer, Length, Full, Standing, Serial, Form, Price, Shipped, Unknown, Empty, Line, Values, Request}
+use Rattle.refusals.specs.declared.size.DigestSize.{DigestSize}
+use Rattle.refusals.specs.Sizes.{bits_in, is_size}
 
 -- the number of each refusal
 abbrev pub number : Refusal → ℕ
@@ -19,6 +20,9 @@ number Price = 10
 number Shipped = 11
 number Unknown = 12
 number Empty = 13
+number Line = 14
+number Values = 15
+number Request = 16
 
 -- what a call answered: 0, or the number of its refusal
 abbrev pub outcome : {T : Type 0} → Result T Refusal → ℕ
@@ -27,6 +31,10 @@ outcome (Err e) = number e
 
 abbrev pub size_refusal : ℕ → ℕ
 size_refusal size = cond (is_size size) 0 1
+
+-- what a number of bits is read as: the size that has so many bits, or the refusal of a size
+abbrev pub ReadsSize : ℕ → Result DigestSize Refusal → Type 0
+ReadsSize n r = (outcome r ≡ size_refusal n) × MatchResult r (λ s. bits_in s ≡ n) (λ e. e ≡ Size)
 
 -- the buffer has so many bytes, and so many are written
 abbrev pub buffer_refusal : ℕ → ℕ → ℕ
