@@ -6,6 +6,7 @@ ghost use Rattle.words.specs.Bits.{word_bit};
 ghost use Rattle.words.specs.Widths.{run_length};
 
 use crate::Width;
+use std::ops::{BitAnd, BitOr, BitXor, Not};
 use std::simd::prelude::*;
 
 // A word of 128 bits: two lanes of 64, the first one the high half.
@@ -31,38 +32,54 @@ impl Word {
         let [high, low] = self.lanes.to_array();
         (high, low)
     }
+}
 
-    // The exclusive or, bit by bit.
-    pub fn xor(self, other: Word) -> Word
-        ensures { (i : ℕ) → word_bit result i ≡ differ (word_bit self i) (word_bit other i) }
-    {
+// The exclusive or, bit by bit.
+impl BitXor for Word {
+    type Output = Word;
+
+    ghost bitxor_gives = { λ a b r. (i : ℕ) → word_bit r i ≡ differ (word_bit a i) (word_bit b i) };
+
+    fn bitxor(self, rhs: Word) -> Word {
         Word {
-            lanes: self.lanes ^ other.lanes,
+            lanes: self.lanes ^ rhs.lanes,
         }
     }
+}
 
-    // The conjunction, bit by bit.
-    pub fn and(self, other: Word) -> Word
-        ensures { (i : ℕ) → word_bit result i ≡ (word_bit self i && word_bit other i) }
-    {
+// The conjunction, bit by bit.
+impl BitAnd for Word {
+    type Output = Word;
+
+    ghost bitand_gives = { λ a b r. (i : ℕ) → word_bit r i ≡ (word_bit a i && word_bit b i) };
+
+    fn bitand(self, rhs: Word) -> Word {
         Word {
-            lanes: self.lanes & other.lanes,
+            lanes: self.lanes & rhs.lanes,
         }
     }
+}
 
-    // The disjunction, bit by bit.
-    pub fn or(self, other: Word) -> Word
-        ensures { (i : ℕ) → word_bit result i ≡ (word_bit self i || word_bit other i) }
-    {
+// The disjunction, bit by bit.
+impl BitOr for Word {
+    type Output = Word;
+
+    ghost bitor_gives = { λ a b r. (i : ℕ) → word_bit r i ≡ (word_bit a i || word_bit b i) };
+
+    fn bitor(self, rhs: Word) -> Word {
         Word {
-            lanes: self.lanes | other.lanes,
+            lanes: self.lanes | rhs.lanes,
         }
     }
+}
 
-    // The complement, bit by bit.
-    pub fn not(self) -> Word
-        ensures { (i : ℕ) → word_bit result i ≡ not (word_bit self i) }
-    {
+// The complement, bit by bit.
+impl Not for Word {
+    type Output = Word;
+
+    ghost not_gives = { λ a r. (i : ℕ) → word_bit r i ≡ not (word_bit a i) };
+
+    fn not(self) -> Word {
         Word { lanes: !self.lanes }
     }
 }

@@ -1,7 +1,7 @@
 use Rattle.std.proofs.Common.{◌≡◌, ◌^◌, ◌<◌, length, get_or, rules}
 use Rattle.words.specs.Bits.{word_bit}
 use Rattle.words.proofs.Lanes.{lanes_inverted}
-use Rattle.words.proofs.word.Word.not.Goals as goal
+use Rattle.words.proofs.word.WordNot.not.Goals as goal
 
 pub returns : goal.returns
 unfolding word_bit
