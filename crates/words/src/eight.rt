@@ -5,35 +5,18 @@ ghost use Rattle.jh.specs.Permutation.{byte_bit};
 ghost use Rattle.words.specs.Eight.{HalfAt, WordAt, WordsIn};
 
 use crate::Word;
+use std::array;
 
 // Words 0 to 7.
 #[derive(Clone, Copy)]
-pub struct EightWords(
-    pub Word,
-    pub Word,
-    pub Word,
-    pub Word,
-    pub Word,
-    pub Word,
-    pub Word,
-    pub Word,
-);
+pub struct EightWords(pub [Word; 8]);
 
 impl EightWords {
     // The words that the bytes hold.
     pub fn read(bytes: &[u8; 128]) -> EightWords
         ensures { WordsIn bytes.now result }
     {
-        EightWords(
-            read_word(bytes, 0),
-            read_word(bytes, 1),
-            read_word(bytes, 2),
-            read_word(bytes, 3),
-            read_word(bytes, 4),
-            read_word(bytes, 5),
-            read_word(bytes, 6),
-            read_word(bytes, 7),
-        )
+        EightWords(array::from_fn(|k| read_word(bytes, k)))
     }
 
     // The bytes now hold these words.
@@ -41,14 +24,9 @@ impl EightWords {
         ensures words { WordsIn bytes.new self }
         ensures bytes { Bytes 128 bytes.new }
     {
-        write_word(bytes, 0, self.0);
-        write_word(bytes, 1, self.1);
-        write_word(bytes, 2, self.2);
-        write_word(bytes, 3, self.3);
-        write_word(bytes, 4, self.4);
-        write_word(bytes, 5, self.5);
-        write_word(bytes, 6, self.6);
-        write_word(bytes, 7, self.7);
+        for (k, word) in self.0.iter().enumerate() {
+            write_word(bytes, k, *word);
+        }
     }
 }
 
@@ -63,16 +41,9 @@ fn read_half(bytes: &[u8; 128], at: usize) -> u64
     requires { at + 8 ≤ 128 }
     ensures { HalfAt bytes.now at result }
 {
-    u64::from_be_bytes([
-        bytes[at],
-        bytes[at + 1],
-        bytes[at + 2],
-        bytes[at + 3],
-        bytes[at + 4],
-        bytes[at + 5],
-        bytes[at + 6],
-        bytes[at + 7],
-    ])
+    let mut half = [0; 8];
+    half.copy_from_slice(&bytes[at..at + 8]);
+    u64::from_be_bytes(half)
 }
 
 fn write_word(bytes: &mut [u8; 128], k: usize, word: Word)

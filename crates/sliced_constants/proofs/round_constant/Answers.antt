@@ -1,8 +1,7 @@
-use Rattle.std.proofs.Common.{◌%◌, mod-lt, lit<}
-use Rattle.sliced_constants.proofs.Table.{agree, row_test, table_test, row_right}
+use Rattle.std.proofs.Common.{rules, ◌%◌, ◌<◌, ◌≡◌, ℕ, ◌+◌, ◌-◌, ◌*◌, ◌≤◌, length, ◌/◌, Bool, true, false, nat_eq, nat_lt, List, [], ◌∷◌, ◌++◌, slice_index_or, slice_set, bit_and, bit_or, Fits, w8, w32, w64, Bor, MutBor}
+use Rattle.sliced_constants.specs.Constants.{IsConstant, IsRow}
 use Rattle.sliced_constants.proofs.round_constant.Goals as goal
 
--- the table of the code passes the test, which antt computes
+-- src/lib.rt:17:1
 pub returns : goal.returns
-unfolding agree row_test table_test
-returns c = row_right _ (c.args.round % 42) (mod-lt c.args.round (lit< tt)) tt c.row.result c.row.ensures
+returns c = ?

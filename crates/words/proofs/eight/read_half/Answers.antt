@@ -1,15 +1,21 @@
-use Rattle.std.proofs.Common.{ℕ, ◌+◌, ◌<◌, List, get_or, ap, ◌∙◌}
+use Rattle.std.proofs.Common.{◌≡◌, ℕ, ◌+◌, ◌-◌, ◌<◌, List, get_or, drop, sym, ap, ◌∙◌, subst, div-one, arith}
+use Rattle.std.proofs.lemmas.Nat.{be_bytes_8}
+use Rattle.std.proofs.lemmas.Simd.{get_or-chunk}
 use Rattle.byte_strings.specs.Bytes.{big_endian}
-use Rattle.slicing.proofs.BigEndian.{number_bytes, eight_bit}
+use Rattle.byte_strings.proofs.Strings.{small_take, small_drop}
+use Rattle.slicing.proofs.BigEndian.{eight_bit}
 use Rattle.words.proofs.eight.read_half.Goals as goal
 
+-- the eight bytes in the array are those from byte `at` on
 pub returns : goal.returns
 returns c =
     let x : List ℕ = c.args.bytes.now in
     let a : ℕ = c.args.at in
-    let b : (k : ℕ) → ℕ = λ k. get_or x k 0 in
-    let s : (k : ℕ) → b k < 256 = c.fits-bytes in
-    eight_bit x a c.from_be_bytes.result
-    (ap (big_endian 8) c.from_be_bytes.ensures
-    ∙ number_bytes (b a) (b (a + 1)) (b (a + 2)) (b (a + 3)) (b (a + 4)) (b (a + 5)) (b (a + 6)) (b (a + 7))
-    (s a) (s (a + 1)) (s (a + 2)) (s (a + 3)) (s (a + 4)) (s (a + 5)) (s (a + 6)) (s (a + 7)))
+    let n : ℕ = c.from_be_bytes.result in
+    let y : List ℕ = c.copy_from_slice.new.self in
+    let s : (k : ℕ) → get_or y k 0 < 256
+    = subst (λ (ys : List ℕ). (k : ℕ) → get_or ys k 0 < 256) (sym c.copy_from_slice.ensures.after)
+    (small_take (a + 8 - a) (drop a x) (small_drop a x c.fits-bytes)) in
+    let e : big_endian 8 n ≡ y = simp div-one (be_bytes_8 y n c.copy_from_slice.ensures.len s c.from_be_bytes.ensures) in
+    eight_bit x y a n e
+    (λ k h. ap (λ (ys : List ℕ). get_or ys k 0) c.copy_from_slice.ensures.after ∙ get_or-chunk a (a + 8 - a) x k 0 (omega arith))
