@@ -1,7 +1,9 @@
-use Rattle.std.proofs.Common.{rules, ◌%◌, ◌<◌, ◌≡◌, ℕ, ◌+◌, ◌-◌, ◌*◌, ◌≤◌, length, ◌/◌, Bool, true, false, nat_eq, nat_lt, List, [], ◌∷◌, ◌++◌, slice_index_or, slice_set, bit_and, bit_or, Fits, w8, w32, w64, Bor, MutBor}
-use Rattle.sliced_constants.specs.Constants.{IsConstant, IsRow}
+use Rattle.std.proofs.Common.{◌%◌, mod-lt, lit<}
+use Rattle.sliced_constants.specs.declared.TheConstants.{CONSTANTS}
+use Rattle.sliced_constants.proofs.Table.{agree, row_test, table_test, row_right}
 use Rattle.sliced_constants.proofs.round_constant.Goals as goal
 
--- src/lib.rt:17:1
+-- the table of the code passes the test, which antt computes
 pub returns : goal.returns
-returns c = ?
+unfolding agree row_test table_test
+returns c = row_right CONSTANTS (c.args.round % 42) (mod-lt c.args.round (lit< tt)) tt (record { even = c.new.result; odd = c.new-2.result }) c.new.ensures c.new-2.ensures
