@@ -4,11 +4,13 @@ use mathlib.Core.List.{List}
 use Prim.Native.Nat.{ℕ, ◌<◌, ◌+◌, ◌*◌, ◌/◌, ◌%◌}
 use native.Mathlib.Omega.{arith}
 use lib.ListN.{get_or}
+use lib.Dec.{lit<}
 use Rattle.jh.specs.Permutation.{byte_bit, group}
 use Rattle.jh.proofs.Grouping.{group_at}
 use Rattle.slicing.specs.Places.{place}
 use Rattle.slicing.proofs.Slices.{element_same}
 use Rattle.words.specs.Eight.{WordAt, WordsIn}
+use Rattle.words.specs.declared.word.Word.{Word}
 use Rattle.words.specs.declared.eight.EightWords.{EightWords}
 use Rattle.sliced.specs.Slices.{element_at}
 use Rattle.sliced.specs.State.{Form}
@@ -24,9 +26,20 @@ element_in x e k a b c d i p h g n =
     element_same (a i h ∙ ap (byte_bit x) (sym n)) (b i h ∙ ap (byte_bit x) n1) (c i h ∙ ap (byte_bit x) n2) (d i h ∙ ap (byte_bit x) n3)
     ∙ sym (group_at x p g)
 
-pub words_form : (x : List ℕ) (w : EightWords) → WordsIn x w
-    → Form 0 (group x) (record { even = (w.0, w.2, w.4, w.6); odd = (w.1, w.3, w.5, w.7) })
-words_form x w v = record {
-  evens = λ i h. element_in x (w.0, w.2, w.4, w.6) 0 v.word_0 v.word_2 v.word_4 v.word_6 i (2 * place 0 i) h (omega arith) (omega arith);
-  odds = λ i h. element_in x (w.1, w.3, w.5, w.7) 1 v.word_1 v.word_3 v.word_5 v.word_7 i (2 * place 0 i + 1) h (omega arith) (omega arith);
-}
+module _ {x : List ℕ} {w : EightWords} (d : Word) (v : WordsIn x w) where
+  abbrev word : ℕ → Word
+  word k = get_or w.0 k d
+
+  abbrev even : Slices
+  even = (word 0, word 2, word 4, word 6)
+
+  abbrev odd : Slices
+  odd = (word 1, word 3, word 5, word 7)
+
+  pub words_form : Form 0 (group x) (record { even = even; odd = odd })
+  words_form = record {
+    evens = λ i h.
+        element_in x even 0 (v.word 0 d (lit< tt)) (v.word 2 d (lit< tt)) (v.word 4 d (lit< tt)) (v.word 6 d (lit< tt)) i (2 * place 0 i) h (omega arith) (omega arith);
+    odds = λ i h.
+        element_in x odd 1 (v.word 1 d (lit< tt)) (v.word 3 d (lit< tt)) (v.word 5 d (lit< tt)) (v.word 7 d (lit< tt)) i (2 * place 0 i + 1) h (omega arith) (omega arith);
+  }

@@ -25,17 +25,17 @@ impl Slices {
         ensures { (i : ℕ) → element_at result i ≡ sbox (word_bit c i) (element_at self i) }
     {
         let Slices(x0, x1, x2, x3) = self;
-        let n3 = x3.not();
-        let p0 = x0.xor(c.and(x2.not()));
-        let t = c.xor(p0.and(x1));
-        let q0 = p0.xor(x2.and(n3));
-        let q3 = n3.xor(x1.not().and(x2));
-        let q1 = x1.xor(q0.and(x2));
-        let q2 = x2.xor(q0.and(q3.not()));
-        let y0 = q0.xor(q1.or(q3));
-        let y3 = q3.xor(q1.and(q2));
-        let y1 = q1.xor(t.and(y0));
-        let y2 = q2.xor(t);
+        let n3 = !x3;
+        let p0 = x0 ^ (c & !x2);
+        let t = c ^ (p0 & x1);
+        let q0 = p0 ^ (x2 & n3);
+        let q3 = n3 ^ (!x1 & x2);
+        let q1 = x1 ^ (q0 & x2);
+        let q2 = x2 ^ (q0 & !q3);
+        let y0 = q0 ^ (q1 | q3);
+        let y3 = q3 ^ (q1 & q2);
+        let y1 = q1 ^ (t & y0);
+        let y2 = q2 ^ t;
         Slices(y0, y1, y2, y3)
     }
 
@@ -45,19 +45,19 @@ impl Slices {
         ensures { (i : ℕ) → element_at result i ≡ unsbox (word_bit c i) (element_at self i) }
     {
         let Slices(y0, y1, y2, y3) = self;
-        let n3 = y3.not();
-        let t0 = y0.xor(y3);
-        let t1 = y1.and(y0.not());
-        let t2 = y2.xor(c);
-        let t3 = y1.xor(y0.and(c.not()));
-        let t4 = t0.and(t2);
-        let t5 = n3.and(t2);
-        let t6 = t0.and(t3.xor(t5));
-        let t7 = y0.xor(t4).and(t3.not());
-        let x1 = t6.xor(t7);
-        let x2 = n3.and(t3).xor(t2.and(t1.not()));
-        let x3 = n3.and(t1.not()).xor(t4).xor(t2.or(t6));
-        let x0 = t0.or(t5).and(t7.not()).xor(c.and(x2.not()));
+        let n3 = !y3;
+        let t0 = y0 ^ y3;
+        let t1 = y1 & !y0;
+        let t2 = y2 ^ c;
+        let t3 = y1 ^ (y0 & !c);
+        let t4 = t0 & t2;
+        let t5 = n3 & t2;
+        let t6 = t0 & (t3 ^ t5);
+        let t7 = (y0 ^ t4) & !t3;
+        let x1 = t6 ^ t7;
+        let x2 = (n3 & t3) ^ (t2 & !t1);
+        let x3 = (n3 & !t1) ^ t4 ^ (t2 | t6);
+        let x0 = ((t0 | t5) & !t7) ^ (c & !x2);
         Slices(x0, x1, x2, x3)
     }
 
@@ -67,10 +67,10 @@ impl Slices {
     {
         let Slices(x0, x1, x2, x3) = self;
         let Slices(y0, y1, y2, y3) = other;
-        let z0 = x0.xor(y1);
-        let z1 = x1.xor(y2);
-        let z2 = x2.xor(y3).xor(y0);
-        let z3 = x3.xor(y0);
+        let z0 = x0 ^ y1;
+        let z1 = x1 ^ y2;
+        let z2 = x2 ^ y3 ^ y0;
+        let z3 = x3 ^ y0;
         Slices(z0, z1, z2, z3)
     }
 

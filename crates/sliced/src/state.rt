@@ -18,10 +18,11 @@ impl State {
     pub(crate) fn read(bytes: &[u8; 128]) -> State
         ensures { Form 0 (group bytes.now) result }
     {
-        let words = EightWords::read(bytes);
+        let EightWords([even_0, odd_0, even_1, odd_1, even_2, odd_2, even_3, odd_3]) =
+            EightWords::read(bytes);
         State {
-            even: Slices(words.0, words.2, words.4, words.6),
-            odd: Slices(words.1, words.3, words.5, words.7),
+            even: Slices(even_0, even_1, even_2, even_3),
+            odd: Slices(odd_0, odd_1, odd_2, odd_3),
         }
     }
 
@@ -30,7 +31,7 @@ impl State {
         ensures { (q : List ℕ) → length q ≡ 256 → Form 0 q self → bytes.new ≡ ungroup q }
     {
         let State { even, odd } = self;
-        EightWords(even.0, odd.0, even.1, odd.1, even.2, odd.2, even.3, odd.3).write(bytes);
+        EightWords([even.0, odd.0, even.1, odd.1, even.2, odd.2, even.3, odd.3]).write(bytes);
     }
 
     // L on each pair: D = 2•A + B and C = 5•A + 2•B = A + 2•D.

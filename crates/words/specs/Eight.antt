@@ -14,6 +14,6 @@ HalfAt x at h = (j : ℕ) → j < 64 → bit h (63 - j) ≡ byte_bit x (8 * at +
 abbrev pub WordAt : List ℕ → ℕ → Word → Type 0
 WordAt x k w = (i : ℕ) → i < 128 → word_bit w i ≡ byte_bit x (128 * k + i)
 
--- each of the eight words, in order
-abbrev pub WordsIn : List ℕ → EightWords → Type 0
-WordsIn x w = (k : ℕ) (d : Word) → k < 8 → WordAt x k (slice_index_or w.0 k d)
+-- w are the eight words
+pub record WordsIn (x : List ℕ) (w : EightWords) : Type 0 where
+  pub word : (k : ℕ) (d : Word) → k < 8 → WordAt x k (slice_index_or w.0 k d)

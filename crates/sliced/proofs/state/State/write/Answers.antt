@@ -13,5 +13,5 @@ pub returns : goal.returns
 returns c q long form =
     let x : List ℕ = c.write.new.bytes in
     let w = c.write.ensures in
-    let read = words_form x _ w.words in
+    let read = words_form c.args.self.even.0 w.words in
     sym (ungroup_group x w.bytes.len (all_bytes w.bytes)) ∙ ap ungroup (lies_same (group x) q (length_group x) long read form)
