@@ -1,3 +1,4 @@
+pub mod FromFn
 pub mod Over
 pub mod Xored
 pub mod Strings

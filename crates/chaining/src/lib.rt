@@ -2,35 +2,37 @@
 #![tactic(auto)]
 
 ghost use Rattle.std.specs.Prelude.{◌≡◌};
-ghost use Rattle.jh.specs.Compression.{low, high, size_bytes, ending_block};
+ghost use Rattle.jh.specs.Compression.{size_bytes, ending_block};
 ghost use Rattle.refusals.specs.Sizes.{bits_in};
+ghost use Rattle.chaining.specs.Masked.{masked};
 
 use byte_strings::xor_into;
 use press::{Block, Chain};
 use refusals::size::DigestSize;
 
-// Exclusive-ors the block into bytes 0 to 63 of the chain value.
-pub fn mask_low(c: &mut Chain, m: &Block)
-    ensures { c.new ≡ low c.old m.now }
-{
-    xor_into(&mut c[0..64], m);
+// The half of a chain value that a block goes into: bytes 0 to 63, or bytes 64 to 127.
+#[derive(Clone, Copy, Debug, PartialEq, Eq)]
+pub enum Half {
+    Low,
+    High,
 }
 
-// Exclusive-ors the block into bytes 64 to 127 of the chain value.
-pub fn mask_high(c: &mut Chain, m: &Block)
-    ensures { c.new ≡ high c.old m.now }
+// Exclusive-ors the block into that half of the chain value.
+pub fn mask(c: &mut Chain, half: Half, m: &Block)
+    ensures { c.new ≡ masked half c.old m.now }
 {
-    xor_into(&mut c[64..128], m);
+    match half {
+        Half::Low => xor_into(&mut c[0..64], m),
+        Half::High => xor_into(&mut c[64..128], m),
+    }
 }
 
 // A chain value with the digest size in bytes 0 and 1, the high byte first, and zeros.
 pub fn sized_chain(size: DigestSize) -> Chain
     ensures { result ≡ size_bytes (bits_in size) }
 {
-    let bits = size.bits();
     let mut c = [0; 128];
-    c[0] = (bits / 256) as u8;
-    c[1] = (bits % 256) as u8;
+    c[0..2].copy_from_slice(&size.bits().to_be_bytes());
     c
 }
 
@@ -40,6 +42,6 @@ pub fn last_block(count: u32) -> Block
 {
     let mut m = [0; 64];
     m[0] = 0x80;
-    m[48..64].copy_from_slice(&(512 * count as u128).to_be_bytes());
+    m[48..64].copy_from_slice(&(512 * u128::from(count)).to_be_bytes());
     m
 }

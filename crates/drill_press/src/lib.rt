@@ -8,7 +8,7 @@ ghost use Rattle.refusals.specs.Sizes.{bits_in};
 ghost use Rattle.jh.proofs.Compression.{size_bytes_long};
 ghost use Rattle.drill_press.specs.Rotations.{stepped_bytes, step_undone, back_undone};
 
-use chaining::{last_block, mask_high, sized_chain};
+use chaining::{Half, last_block, mask, sized_chain};
 use press::{Block, Chain, Press};
 use refusals::size::DigestSize;
 
@@ -36,16 +36,18 @@ impl Press for Drill {
         sized_chain(size)
     }
 
+    #[tactic(auto, unfolding(crate::specs::Drill::stepped))]
     fn step(&self, c: &Chain, m: &Block) -> Chain {
         let mut next = *c;
         next.rotate_left(1);
-        mask_high(&mut next, m);
+        mask(&mut next, Half::High, m);
         next
     }
 
+    #[tactic(auto, unfolding(crate::specs::Drill::stepped_back))]
     fn back(&self, c: &Chain, m: &Block) -> Chain {
         let mut last = *c;
-        mask_high(&mut last, m);
+        mask(&mut last, Half::High, m);
         last.rotate_right(1);
         last
     }

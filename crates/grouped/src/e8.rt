@@ -1,39 +1,36 @@
 // The permutation E8 of 128 bytes: 42 rounds on 256 elements.
 ghost use Rattle.std.specs.Prelude.{◌≡◌};
-ghost use Rattle.jh.specs.Row.{Row};
 ghost use Rattle.jh.specs.Permutation.{after, e8};
 ghost use Rattle.jh.specs.Inverse.{before, e8⁻¹};
 ghost use Rattle.jh.proofs.Whole.{e8_undone};
 
-use crate::constants::{advance, first_constant, retreat, round_constant};
+use crate::constants::{advance, constant_at, first_constant, retreat};
+use crate::elements::Elements;
 use crate::grouping::{group, ungroup};
-use crate::rounds::{round, unround};
 use permutation::Permutation;
 
 // How many rounds E8 has.
 const ROUNDS: u8 = 42;
 
 // The first `rounds` rounds, with C_0 and on.
-fn rounds_forth(elements: &mut [u8; 256], rounds: u8)
-    requires { Row 256 elements.old }
+fn rounds_forth(elements: &mut Elements<256>, rounds: u8)
     ensures { elements.new ≡ after rounds elements.old }
 {
     let mut constant = first_constant();
     for _r in 0..rounds {
-        round(elements, &constant);
+        elements.round(constant.places());
         advance(&mut constant);
     }
 }
 
 // The first `rounds` rounds undone, the last one first.
-fn rounds_back(elements: &mut [u8; 256], rounds: u8)
-    requires { Row 256 elements.old }
+fn rounds_back(elements: &mut Elements<256>, rounds: u8)
     ensures { elements.new ≡ before rounds elements.old }
 {
-    let mut constant = round_constant(rounds);
+    let mut constant = constant_at(rounds);
     for _r in 0..rounds {
         retreat(&mut constant);
-        unround(elements, &constant);
+        elements.unround(constant.places());
     }
 }
 

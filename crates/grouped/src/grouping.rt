@@ -5,6 +5,9 @@ ghost use Rattle.jh.specs.Permutation.{byte_bit, element_from, grouped_bit, byte
 ghost use Rattle.jh.specs.Permutation.{group as group_of};
 ghost use Rattle.jh.specs.Permutation.{ungroup as ungroup_of};
 
+use crate::elements::Elements;
+use std::array;
+
 // An element by its bits, the highest first.
 fn element(a: bool, b: bool, c: bool, d: bool) -> u8
     ensures value { result ≡ element_by a b c d }
@@ -37,14 +40,10 @@ fn element_at(state: &[u8; 128], p: usize) -> u8
 }
 
 // The elements of a state.
-pub(crate) fn group(state: &[u8; 128]) -> [u8; 256]
+pub(crate) fn group(state: &[u8; 128]) -> Elements<256>
     ensures { result ≡ group_of state.now }
 {
-    let mut elements = [0; 256];
-    for p in 0..256 {
-        elements[p] = element_at(state, p);
-    }
-    elements
+    Elements::new(array::from_fn(|p| element_at(state, p)))
 }
 
 // Bit j of the state that the elements were grouped from.
@@ -76,12 +75,9 @@ fn byte_at(elements: &[u8; 256], b: usize) -> u8
 }
 
 // The state that the elements were grouped from.
-pub(crate) fn ungroup(elements: &[u8; 256]) -> [u8; 128]
+pub(crate) fn ungroup(elements: &Elements<256>) -> [u8; 128]
     ensures { result ≡ ungroup_of elements.now }
 {
-    let mut state = [0; 128];
-    for b in 0..128 {
-        state[b] = byte_at(elements, b);
-    }
-    state
+    let places = elements.places();
+    array::from_fn(|b| byte_at(places, b))
 }

@@ -3,9 +3,9 @@
 
 mod constants;
 mod e8;
+mod elements;
 mod grouping;
 mod layers;
-mod rounds;
 mod tables;
 
 pub use constants::round_constant;

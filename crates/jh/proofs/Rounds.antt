@@ -69,7 +69,7 @@ back_small : {xs : List ℕ} {m : ℕ} → Fours xs m → Small xs → Small (ba
 back_small none s = tt
 back_small (more f) s = (s.1.1.0, (s.1.0, back_small f s.1.1.1.1))
 
-permute_small : {xs : List ℕ} {m : ℕ} → Fours xs m → Small xs → Small (permute xs)
+pub permute_small : {xs : List ℕ} {m : ℕ} → Fours xs m → Small xs → Small (permute xs)
 permute_small {xs} f s = All-append (λ a. a < 16) (front xs) (back xs) (front_small f s) (back_small f s)
 
 swapped_small : (xs : List ℕ) → Small xs → Small (swapped xs)

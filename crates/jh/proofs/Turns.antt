@@ -1,16 +1,16 @@
 -- Rows of elements from layer to layer and from round to round, and the turns of the loops over the rounds.
-use Rattle.std.proofs.Common.{◌≡◌, ℕ, suc, ◌+◌, ◌-◌, ◌*◌, ◌/◌, ◌%◌, ◌<◌, List, length, sym, refl, ap, ◌∙◌, subst, add-one, arith}
+use Rattle.std.proofs.Common.{◌≡◌, ℕ, suc, ◌+◌, ◌-◌, ◌*◌, ◌/◌, ◌%◌, ◌<◌, Bool, List, length, sym, refl, ap, ◌∙◌, subst, add-one, arith}
 use Rattle.jh.specs.Row.{Row}
-use Rattle.jh.specs.Round.{sbox, first, second, mix, substitute, round}
+use Rattle.jh.specs.Round.{boxed, permute, round}
 use Rattle.jh.specs.Constants.{constant, zeros}
 use Rattle.jh.specs.Permutation.{bits, group, after}
-use Rattle.jh.specs.Inverse.{unfirst, unsecond, unmix, unpermute, unround, before}
+use Rattle.jh.specs.Inverse.{unpermute, unround, before}
 use Rattle.jh.proofs.Places.{fours, length_fours}
-use Rattle.jh.proofs.Undone.{twos}
-use Rattle.jh.proofs.Rounds.{substitute_small, mix_small, unmix_small, unpermute_small, unround_long, unround_small}
+use Rattle.jh.proofs.Undone.{length_permute}
+use Rattle.jh.proofs.Rounds.{boxed_small, permute_small, unpermute_small, unround_long, unround_small}
 use Rattle.jh.proofs.Grouping.{length_group, group_small}
 use Rattle.jh.proofs.Whole.{constant_fours, constant_undone, bits_fours, length_bits, after_fours}
-use Rattle.jh.proofs.Layers.{length_boxed, length_paired}
+use Rattle.jh.proofs.Layers.{length_boxed}
 use Rattle.jh.proofs.Moves.{length_unpermute}
 
 -- as many constant bits as elements
@@ -23,29 +23,18 @@ module _ (n : ℕ) (xs ys : List ℕ) (r : Row n xs) where
   same_row : (zs : List ℕ) → ys ≡ zs → Row n zs → Row n ys
   same_row zs e = subst (Row n) (sym e)
 
-  pub substituted : (ks : List ℕ) → n ≡ 4 * length ks → ys ≡ substitute (bits ks) xs → Row n ys
-  substituted ks f e =
-      same_row (substitute (bits ks) xs) e
-      record { long = length_boxed sbox (bits ks) xs (same_long ks xs (r.long ∙ f)) ∙ r.long; small = substitute_small (bits ks) xs r.small }
+  pub boxed_row : (box : Bool → ℕ → ℕ) → ((bit : Bool) (a : ℕ) → a < 16 → box bit a < 16) → (ks : List ℕ) → n ≡ 4 * length ks → ys ≡ boxed box (bits ks) xs → Row n ys
+  boxed_row box keeps ks f e =
+      same_row (boxed box (bits ks) xs) e
+      record { long = length_boxed box (bits ks) xs (same_long ks xs (r.long ∙ f)) ∙ r.long; small = boxed_small box keeps (bits ks) xs r.small }
 
-  pub mixed : n % 4 ≡ 0 → ys ≡ mix xs → Row n ys
-  mixed f e =
-      same_row (mix xs) e
-      record {
-        long = length_paired first second xs (omega (arith, r.long)) ∙ r.long;
-        small = mix_small (twos (n / 2) xs (omega (arith, r.long))) r.small;
-      }
+  pub permuted : n % 4 ≡ 0 → ys ≡ permute xs → Row n ys
+  permuted f e =
+      let four = fours (n / 4) xs (omega (arith, r.long)) in
+      same_row (permute xs) e record { long = length_permute xs (n / 4) four ∙ (omega arith); small = permute_small four r.small }
 
   pub unpermuted : n % 4 ≡ 0 → ys ≡ unpermute xs → Row n ys
   unpermuted f e = same_row (unpermute xs) e record { long = length_unpermute n xs f r.long ∙ r.long; small = unpermute_small xs r.small }
-
-  pub unmixed : n % 4 ≡ 0 → ys ≡ unmix xs → Row n ys
-  unmixed f e =
-      same_row (unmix xs) e
-      record {
-        long = length_paired unfirst unsecond xs (omega (arith, r.long)) ∙ r.long;
-        small = unmix_small (twos (n / 2) xs (omega (arith, r.long))) r.small;
-      }
 
 -- ---- the round constants
 

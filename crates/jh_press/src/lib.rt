@@ -6,7 +6,7 @@ ghost use Rattle.jh.specs.Compression.{compress, uncompress, opening_over, endin
 ghost use Rattle.refusals.specs.Sizes.{bits_in};
 ghost use Rattle.jh.proofs.Compression.{opening_bytes, compress_bytes, compress_undone, uncompress_undone};
 
-use chaining::{last_block, mask_high, mask_low, sized_chain};
+use chaining::{Half, last_block, mask, sized_chain};
 use permutation::Permutation;
 use press::{Block, Chain, Press};
 use refusals::size::DigestSize;
@@ -46,23 +46,24 @@ impl<P: Permutation> Press for JhPress<P> {
         uncompress_undone (P.Permutation.preimage p.permutation) (P.Permutation.image p.permutation)
         (P.Permutation.image_of_preimage p.permutation) (λ x h. (P.Permutation.kept p.permutation x h).1) c m b k };
 
+    #[tactic(auto, unfolding(jh::specs::Compression::opening_over))]
     fn opening(&self, size: DigestSize) -> Chain {
         self.step(&sized_chain(size), &[0; 64])
     }
 
     fn step(&self, c: &Chain, m: &Block) -> Chain {
         let mut next = *c;
-        mask_low(&mut next, m);
+        mask(&mut next, Half::Low, m);
         self.permutation.forth(&mut next);
-        mask_high(&mut next, m);
+        mask(&mut next, Half::High, m);
         next
     }
 
     fn back(&self, c: &Chain, m: &Block) -> Chain {
         let mut last = *c;
-        mask_high(&mut last, m);
+        mask(&mut last, Half::High, m);
         self.permutation.back(&mut last);
-        mask_low(&mut last, m);
+        mask(&mut last, Half::Low, m);
         last
     }
 

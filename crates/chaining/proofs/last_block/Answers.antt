@@ -1,4 +1,4 @@
-use Rattle.std.proofs.Common.{◌≡◌, ◌*◌, ◌∷◌, ◌++◌, replicate, ap, ◌∙◌, div-one}
+use Rattle.std.proofs.Common.{◌≡◌, ℕ, ◌*◌, ◌∷◌, ◌++◌, replicate, ap, ◌∙◌, div-one}
 use Rattle.std.proofs.lemmas.List.{append-nil}
 use Rattle.byte_strings.specs.Bytes.{big_endian}
 use Rattle.jh.specs.Compression.{ending_block}
@@ -8,5 +8,6 @@ pub returns : goal.returns
 unfolding ending_block
 returns c =
     let b = c.copy_from_slice.new.self in
-    let e : b ≡ big_endian 16 (512 * c.args.count) = simp div-one (c.copy_from_slice.ensures.after ∙ c.to_be_bytes.ensures) in
-    ap (λ t. 0x80 ∷ (replicate 47 0 ++ t)) (append-nil b ∙ e)
+    let e : b ≡ big_endian 16 (512 * c.from.result) = simp div-one (c.copy_from_slice.ensures.after ∙ c.to_be_bytes.ensures) in
+    let f = ap (λ (n : ℕ). big_endian 16 (512 * n)) c.from.ensures in
+    ap (λ t. 0x80 ∷ (replicate 47 0 ++ t)) (append-nil b ∙ e ∙ f)

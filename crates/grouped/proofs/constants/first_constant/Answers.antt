@@ -1,8 +1,10 @@
-use Rattle.std.proofs.Common.{◌≡◌, ℕ, ◌+◌, ◌-◌, ◌*◌, ◌/◌, ◌%◌, ◌^◌, ◌<◌, eqb, List, [], ◌∷◌, get_or, set, sym, ◌∙◌, subst, arith, eqb→eq}
-use Rattle.std.proofs.lemmas.List.{ext_get_or, length-set}
-use Rattle.std.proofs.lemmas.List.Edits.{fill_by_more}
+use Rattle.std.proofs.Common.{rules, ◌≡◌, ℕ, ◌-◌, ◌*◌, ◌/◌, ◌%◌, ◌^◌, ◌<◌, eqb, List, [], ◌∷◌, map, get_or, sym, refl, ◌∙◌, arith, eqb→eq}
+use Rattle.std.specs.List.{range_with_len}
+use Rattle.std.proofs.lemmas.List.FromFn.{fill_by_all}
+use Rattle.byte_strings.proofs.FromFn.{from_fn_is}
 use Rattle.jh.specs.Constants.{C0, constant}
 use Rattle.jh.proofs.Below.{below_at}
+use Rattle.jh.proofs.Turns.{constant_row}
 use Rattle.grouped.proofs.constants.first_constant.Goals as goal
 
 -- C_0 in words of 64 bits, and element i in them: a test at 64 places
@@ -15,14 +17,18 @@ element i = get_or words (i / 16) 0 / 2 ^ (60 - i % 16 * 4) % 16
 constant_element : (i : ℕ) → i < 64 → element i ≡ get_or (constant 0) i 0
 constant_element i h = eqb→eq (element i) (get_or (constant 0) i 0) (below_at 64 (λ k. eqb (element k) (get_or (constant 0) k 0)) tt i h)
 
-pub loop-i-preserved : goal.loop-i-preserved
-loop-i-preserved c =
-    let xs : List ℕ = c.loop-i.constant in
-    let i : ℕ = c.loop-i.i in
-    let more = fill_by_more (λ k. get_or (constant 0) k 0) c.loop-i.constant c.loop-i.i 0 (omega arith) c.loop-i.invariant.1 in (
-      length-set c.loop-i.constant c.loop-i.i (element c.loop-i.i) ∙ c.loop-i.invariant.0,
-      subst (λ (w : ℕ). (k : ℕ) → k < i + 1 → get_or (set xs i w) k 0 ≡ get_or (constant 0) k 0) (sym (constant_element c.loop-i.i c.loop-i-test.true)) more,
-    )
+first_is : (ys : List ℕ) → ys ≡ map element (range_with_len 0 64) → ys ≡ constant 0
+first_is ys e = e ∙ sym (fill_by_all element (constant 0) 64 0 refl (λ k h. sym (constant_element k h)))
+
+pub new-requires : goal.new-requires
+new-requires c = (
+  omega arith,
+  (
+    omega arith,
+    (refl, constant_row 0 c.from_fn.result (first_is c.from_fn.result (from_fn_is _ _ element 64 (λ i r q l k. search rules) c.from_fn.result c.from_fn.ensures.items))),
+  ),
+)
 
 pub returns : goal.returns
-returns c = ext_get_or 0 c.loop-i.constant (constant 0) c.loop-i.invariant.0 (λ k h. c.loop-i.invariant.1 k (omega arith))
+returns c =
+    c.new.ensures ∙ first_is c.from_fn.result (from_fn_is _ _ element 64 (λ i r q l k. search rules) c.from_fn.result c.from_fn.ensures.items)

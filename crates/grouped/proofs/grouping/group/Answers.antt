@@ -1,18 +1,24 @@
-use Rattle.std.proofs.Common.{◌≡◌, ℕ, ◌+◌, ◌<◌, get_or, set, sym, ◌∙◌, subst, arith}
-use Rattle.std.proofs.lemmas.List.{length-set}
-use Rattle.std.proofs.lemmas.List.Edits.{fill_by_more}
-use Rattle.std.proofs.lemmas.List.FromFn.{fill_by_all}
+use Rattle.std.proofs.Common.{rules, refl, ◌∙◌, arith}
+use Rattle.byte_strings.proofs.FromFn.{from_fn_is}
 use Rattle.jh.specs.Permutation.{element_from, group}
+use Rattle.jh.proofs.Turns.{group_row}
 use Rattle.grouped.proofs.grouping.group.Goals as goal
 
-pub loop-p-preserved : goal.loop-p-preserved
-loop-p-preserved c =
-    let more = fill_by_more (element_from c.args.state.now) c.loop-p.elements c.loop-p.p 0 (omega arith) c.loop-p.invariant.1 in (
-      length-set c.loop-p.elements c.loop-p.p c.element_at.result ∙ c.loop-p.invariant.0,
-      subst (λ (w : ℕ). (k : ℕ) → k < c.loop-p.p + 1 → get_or (set c.loop-p.elements c.loop-p.p w) k 0 ≡ element_from c.args.state.now k)
-          (sym c.element_at.ensures) more,
-    )
+pub new-requires : goal.new-requires
+unfolding group
+new-requires c = (
+  omega arith,
+  (
+    omega arith,
+    (
+      refl,
+      group_row c.args.state.now c.from_fn.result
+          (from_fn_is _ _ (element_from c.args.state.now) 256 (λ i r q l k. search rules) c.from_fn.result c.from_fn.ensures.items),
+    ),
+  ),
+)
 
 pub returns : goal.returns
 unfolding group
-returns c = fill_by_all (element_from c.args.state.now) c.loop-p.elements 256 0 c.loop-p.invariant.0 (λ k h. c.loop-p.invariant.1 k (omega arith))
+returns c =
+    c.new.ensures ∙ from_fn_is _ _ (element_from c.args.state.now) 256 (λ i r q l k. search rules) c.from_fn.result c.from_fn.ensures.items

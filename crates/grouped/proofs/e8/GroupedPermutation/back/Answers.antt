@@ -1,11 +1,7 @@
 use Rattle.std.proofs.Common.{ap, ◌∙◌}
 use Rattle.jh.specs.Permutation.{ungroup}
 use Rattle.jh.specs.Inverse.{before, e8⁻¹}
-use Rattle.jh.proofs.Turns.{group_row}
 use Rattle.grouped.proofs.e8.GroupedPermutation.back.Goals as goal
-
-pub rounds_back-requires : goal.rounds_back-requires
-rounds_back-requires c = group_row c.args.state.now c.group-elements.result c.group-elements.ensures
 
 pub returns : goal.returns
 unfolding e8⁻¹

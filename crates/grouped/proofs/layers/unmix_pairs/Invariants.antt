@@ -1,7 +1,0 @@
-use Rattle.std.proofs.Common.{◌≡◌, ◌*◌}
-use Rattle.byte_strings.proofs.Over.{over}
-use Rattle.jh.specs.Inverse.{unmix}
-use Rattle.grouped.proofs.layers.unmix_pairs.Given as goal
-
-abbrev pub invariant-loop-i : goal.invariant-loop-i
-invariant-loop-i g l = l.elements ≡ over (2 * l.i) (unmix l.initial.elements) l.initial.elements

@@ -1,7 +1,0 @@
-use Rattle.std.proofs.Common.{◌≡◌, ◌*◌}
-use Rattle.byte_strings.proofs.Over.{over}
-use Rattle.jh.specs.Inverse.{unpermute}
-use Rattle.grouped.proofs.layers.unpermute.Given as goal
-
-abbrev pub invariant-loop-i : goal.invariant-loop-i
-invariant-loop-i g l = l.elements ≡ over (4 * l.i) (unpermute l.initial.elements) l.initial.elements
