@@ -23,5 +23,5 @@ pub(crate) fn last_byte(bytes: &[u8], bits: u64) -> u8
         return 0x80;
     }
     let byte = bytes[(bits / 8) as usize];
-    byte & !(0xff >> kept) | 0x80 >> kept
+    (byte & !(0xff >> kept)) | (0x80 >> kept)
 }

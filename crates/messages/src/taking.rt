@@ -6,6 +6,8 @@ ghost use Rattle.messages.specs.Holds.{Holds, Takes};
 use crate::midstate::Midstate;
 use press::{Chain, Press};
 
+// Kept: a press is given at each call, since a feeder owns its press and a digest borrows one; a struct of press and midstate is no
+// plainer, as a feeder would put it together and take it apart in each of its methods.
 impl Midstate {
     // The midstate of no bytes.
     pub(crate) fn new(opening: Chain) -> Self
