@@ -1,6 +1,9 @@
 // A message that is fed in parts.
+ghost use Rattle.std.specs.Prelude.{◌≡◌};
+
 use jh_press::JhPress;
 use messages::feeder::Feeder;
+use refusals::size::DigestSize;
 
 // A feeder over the JH press.
 // Kept: the methods of `Feeder`, which holds for any press, cannot name JH in their contracts, and a type of another crate takes no methods
@@ -8,4 +11,13 @@ use messages::feeder::Feeder;
 #[derive(Drop)]
 pub struct JhFeeder<P> {
     pub(crate) feeder: Feeder<JhPress<P>>,
+}
+
+impl<P> JhFeeder<P> {
+    // The size of the digests.
+    pub fn size(&self) -> DigestSize
+        ensures { result ≡ self.now.feeder.size }
+    {
+        self.feeder.size()
+    }
 }
