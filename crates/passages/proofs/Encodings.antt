@@ -116,6 +116,11 @@ pub charged_encoded : (p : Passage) → p.charged < 2 ^ 32 → charged_of (encod
 unfolding encoded
 charged_encoded p h = spelled p.charged h
 
+-- four bytes give no more
+pub charged_most : (p : Passage) → charged_of (encoded p) ≤ 4294967295
+unfolding encoded
+charged_most p = omega arith
+
 time_spelled : (n : ℕ) → n < 2 ^ 64
     → (n / 72057594037927936 % 256 * 16777216 + n / 281474976710656 % 256 * 65536 + n / 1099511627776 % 256 * 256 + n / 4294967296 % 256) * 4294967296
     + (n / 16777216 % 256 * 16777216 + n / 65536 % 256 * 65536 + n / 256 % 256 * 256 + n / 1 % 256) ≡ n
