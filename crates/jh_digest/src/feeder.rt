@@ -3,6 +3,8 @@ use jh_press::JhPress;
 use messages::feeder::Feeder;
 
 // A feeder over the JH press.
+// Kept: the methods of `Feeder`, which holds for any press, cannot name JH in their contracts, and a type of another crate takes no methods
+// here; so this one hands on each call, and no plainer form says as much.
 #[derive(Drop)]
 pub struct JhFeeder<P> {
     pub(crate) feeder: Feeder<JhPress<P>>,
