@@ -4,7 +4,7 @@
 ghost use Rattle.std.specs.Prelude.{◌≡◌};
 ghost use Rattle.jh.specs.Compression.{uncompress};
 ghost use Rattle.refusals.specs.Sizes.{bits_in};
-ghost use Rattle.jh_press.specs.Meaning.{jh_meaning};
+ghost use Rattle.jh_press.specs.Meaning.{jh_means};
 ghost use Rattle.jh.proofs.Compression.{opening_bytes, compress_bytes, compress_undone, uncompress_undone};
 
 use chaining::{Half, last_block, mask, sized_chain};
@@ -27,7 +27,7 @@ impl<P: Permutation> JhPress<P> {
 }
 
 impl<P: Permutation> Press for JhPress<P> {
-    ghost means = { λ p. jh_meaning (P.Permutation.image p.permutation) };
+    ghost means = { jh_means P.Permutation.image };
 
     ghost backs = { λ p c m. uncompress (P.Permutation.preimage p.permutation) c m };
 
