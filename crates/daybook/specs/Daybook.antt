@@ -2,6 +2,7 @@
 -- and never looks into the roll.
 use Rattle.std.specs.Prelude.{ℕ, ◌+◌, cond, List, [], ◌∷◌, ◌++◌, length, take, drop, fold, sum_by, ◌==◌, slice_index_or}
 use Rattle.refusals.specs.Refusals.{buffer_refusal, pass_refusal, cancel_refusal, ship_refusal}
+use Rattle.press.specs.Meaning.{Meaning}
 use Rattle.passages.specs.Fields.{serial_of, charged_of, formed, priced}
 use Rattle.passages.specs.Rows.{last_serial, has, without}
 use Rattle.daybook.specs.Contents.{text_length}
@@ -79,9 +80,9 @@ abbrev pub daybook : ℕ → List Call → Daybook
 daybook size calls = fold next (unwritten size) calls
 
 -- the seal over the standing passages: the opening value stepped through them in order
-abbrev pub seal_of : (ℕ → List ℕ) → (List ℕ → List ℕ → List ℕ) → Daybook → List ℕ
-seal_of opens steps d = fold steps (opens d.size) d.standing
+abbrev pub seal_of : Meaning → Daybook → List ℕ
+seal_of m d = fold m.steps (m.opens d.size) d.standing
 
 -- the chain value of a closed roll: that seal, stepped with the ending block for the count of standing passages
-abbrev pub closed_seal_of : (ℕ → List ℕ) → (List ℕ → List ℕ → List ℕ) → (ℕ → List ℕ) → Daybook → List ℕ
-closed_seal_of opens steps ends d = steps (seal_of opens steps d) (ends (length d.standing))
+abbrev pub closed_seal_of : Meaning → Daybook → List ℕ
+closed_seal_of m d = m.steps (seal_of m d) (m.ends (length d.standing))

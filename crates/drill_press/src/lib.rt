@@ -2,8 +2,7 @@
 #![tactic(auto)]
 
 ghost use Rattle.std.specs.Prelude.{◌≡◌};
-ghost use Rattle.jh.specs.Compression.{size_bytes, ending_block};
-ghost use Rattle.drill_press.specs.Drill.{stepped, stepped_back};
+ghost use Rattle.drill_press.specs.Drill.{drill, stepped, stepped_back};
 ghost use Rattle.refusals.specs.Sizes.{bits_in};
 ghost use Rattle.jh.proofs.Compression.{size_bytes_long};
 ghost use Rattle.drill_press.specs.Rotations.{stepped_bytes, step_undone, back_undone};
@@ -16,13 +15,9 @@ use refusals::size::DigestSize;
 pub struct Drill;
 
 impl Press for Drill {
-    ghost opens = { λ _ n. size_bytes n };
-
-    ghost steps = { λ _ c m. stepped c m };
+    ghost means = { λ _. drill };
 
     ghost backs = { λ _ c m. stepped_back c m };
-
-    ghost ends = { λ _ n. ending_block n };
 
     ghost opens_chain = { λ p s. size_bytes_long (bits_in s) };
 

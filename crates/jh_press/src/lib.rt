@@ -2,8 +2,9 @@
 #![tactic(auto)]
 
 ghost use Rattle.std.specs.Prelude.{◌≡◌};
-ghost use Rattle.jh.specs.Compression.{compress, uncompress, opening_over, ending_block};
+ghost use Rattle.jh.specs.Compression.{uncompress};
 ghost use Rattle.refusals.specs.Sizes.{bits_in};
+ghost use Rattle.jh_press.specs.Meaning.{jh_means};
 ghost use Rattle.jh.proofs.Compression.{opening_bytes, compress_bytes, compress_undone, uncompress_undone};
 
 use chaining::{Half, last_block, mask, sized_chain};
@@ -26,13 +27,9 @@ impl<P: Permutation> JhPress<P> {
 }
 
 impl<P: Permutation> Press for JhPress<P> {
-    ghost opens = { λ p n. opening_over (P.Permutation.image p.permutation) n };
-
-    ghost steps = { λ p c m. compress (P.Permutation.image p.permutation) c m };
+    ghost means = { jh_means P.Permutation.image };
 
     ghost backs = { λ p c m. uncompress (P.Permutation.preimage p.permutation) c m };
-
-    ghost ends = { λ _ n. ending_block n };
 
     ghost opens_chain = { λ p s. opening_bytes (P.Permutation.image p.permutation) (λ x h. (P.Permutation.kept p.permutation x h).0) (bits_in s) };
 

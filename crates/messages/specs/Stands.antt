@@ -1,16 +1,17 @@
 -- What a feeder stands for, and what becomes of it.
 use Rattle.std.specs.Prelude.{◌≡◌, ℕ, ◌/◌, List, [], ◌++◌, drop}
 use Rattle.jh.specs.Message.{bits_of, digest_of}
+use Rattle.press.specs.Meaning.{Meaning}
 use Rattle.refusals.specs.Sizes.{bits_in}
 use Rattle.refusals.specs.declared.size.DigestSize.{DigestSize}
 use Rattle.messages.specs.Holds.{Holds}
 use Rattle.messages.specs.declared.feeder.Feeder.{Feeder}
 
--- the opening value and the step of a press
-module _ {P : Type 0} (opens : P → ℕ → List ℕ) (steps : P → List ℕ → List ℕ → List ℕ) where
+-- what a press means
+module _ {P : Type 0} (means : P → Meaning) where
   -- f was fed the bytes m since it was started or finished
   abbrev pub Stands : List ℕ → Feeder P → Type 0
-  Stands m f = Holds (steps f.press) (opens f.press (bits_in f.size)) m f.state
+  Stands m f = Holds (means f.press).steps ((means f.press).opens (bits_in f.size)) m f.state
 
   -- f is a feeder of the empty message, over the press p and for digests of the size s
   pub record Starts (p : P) (s : DigestSize) (f : Feeder P) : Type 0 where
@@ -28,4 +29,4 @@ module _ {P : Type 0} (opens : P → ℕ → List ℕ) (steps : P → List ℕ �
   abbrev pub Writes : Feeder P → List ℕ → List ℕ → Type 0
   Writes f before after =
       let n = bits_in f.size in
-      (m : List ℕ) → Stands m f → after ≡ digest_of (steps f.press) (opens f.press n) n (bits_of m) ++ drop (n / 8) before
+      (m : List ℕ) → Stands m f → after ≡ digest_of (means f.press).steps ((means f.press).opens n) n (bits_of m) ++ drop (n / 8) before

@@ -14,7 +14,7 @@ impl Midstate {
     // Takes in the padding of a message of `bits` bits; `last` has its last bits and the one bit.
     pub(crate) fn end<P: Press>(&mut self, press: &P, last: u8, bits: u64)
         requires { self.old.count ≤ 2 ^ 40 }
-        ensures { Takes (P.steps press.now) (ending last bits) self.old self.new }
+        ensures { Takes (P.means press.now).steps (ending last bits) self.old self.new }
     {
         let zeros = &[0; 111][..zero_bytes(bits)];
         let count = u128::from(bits).to_be_bytes();

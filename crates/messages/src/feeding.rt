@@ -16,7 +16,7 @@ use refusals::size::DigestSize;
 impl<P: Press> Feeder<P> {
     // A feeder of the empty message, for digests of the size.
     pub fn new(press: P, size: DigestSize) -> Self
-        ensures { Starts P.opens P.steps press size result }
+        ensures { Starts P.means press size result }
     {
         let state = Midstate::new(press.opening(size));
         Feeder { press, size, state }
@@ -25,7 +25,7 @@ impl<P: Press> Feeder<P> {
     // A feeder of the empty message, for digests of `size` bits; refuses a size that is none of the four, and hands the press back.
     pub fn start(press: P, size: u32) -> Result<Self, Declined<P>>
         ensures answer { is_ok result ≡ is_size size }
-        ensures after { MatchResult result (λ f. Starts P.opens P.steps press f.size f × (bits_in f.size ≡ size)) (λ d. (d.press ≡ press) × (d.refusal ≡ Refusal.Size)) }
+        ensures after { MatchResult result (λ f. Starts P.means press f.size f × (bits_in f.size ≡ size)) (λ d. (d.press ≡ press) × (d.refusal ≡ Refusal.Size)) }
     {
         match DigestSize::try_from(size) {
             Ok(size) => Ok(Feeder::new(press, size)),
@@ -36,7 +36,7 @@ impl<P: Press> Feeder<P> {
     // Puts bytes at the end of the message; refuses, and leaves the feeder as it is, where the message would pass 2^40 bytes.
     pub fn feed(&mut self, bytes: &[u8]) -> Result<(), Refusal>
         ensures answer { outcome result ≡ feed_refusal self.old.state.count (length bytes.now) }
-        ensures after { MatchResult result (λ _. Feeds P.opens P.steps bytes.now self.old self.new) (λ _. self.new ≡ self.old) }
+        ensures after { MatchResult result (λ _. Feeds P.means bytes.now self.old self.new) (λ _. self.new ≡ self.old) }
     {
         if bytes.len() as u64 > MOST_BYTES - self.state.count {
             return Err(Refusal::Bytes);
@@ -49,7 +49,7 @@ impl<P: Press> Feeder<P> {
     // refuses, and leaves the feeder as it is, where the message would pass 2^40 bytes.
     pub fn feed_all(&mut self, parts: &[&[u8]]) -> Result<(), Refusal>
         ensures answer { outcome result ≡ feed_refusal self.old.state.count (length (flat_map (λ x. x.now) parts.now)) }
-        ensures after { MatchResult result (λ _. Feeds P.opens P.steps (flat_map (λ x. x.now) parts.now) self.old self.new) (λ _. self.new ≡ self.old) }
+        ensures after { MatchResult result (λ _. Feeds P.means (flat_map (λ x. x.now) parts.now) self.old self.new) (λ _. self.new ≡ self.old) }
     {
         room_left(parts, MOST_BYTES - self.state.count).ok_or(Refusal::Bytes)?;
         self.state.take_parts(&self.press, parts);
@@ -60,8 +60,8 @@ impl<P: Press> Feeder<P> {
     // refuses a buffer that is too short, and leaves all as it is.
     pub fn finish(&mut self, out: &mut [u8]) -> Result<(), Refusal>
         ensures answer { outcome result ≡ buffer_refusal (length out.old) (bits_in self.old.size / 8) }
-        ensures written { MatchResult result (λ _. Writes P.opens P.steps self.old out.old out.new) (λ _. out.new ≡ out.old) }
-        ensures after { MatchResult result (λ _. Starts P.opens P.steps self.old.press self.old.size self.new) (λ _. self.new ≡ self.old) }
+        ensures written { MatchResult result (λ _. Writes P.means self.old out.old out.new) (λ _. out.new ≡ out.old) }
+        ensures after { MatchResult result (λ _. Starts P.means self.old.press self.old.size self.new) (λ _. self.new ≡ self.old) }
     {
         if out.len() < self.size.bytes() {
             return Err(Refusal::Buffer);

@@ -26,7 +26,7 @@ impl Midstate {
     pub(crate) fn take_front<'a, P: Press>(&mut self, press: &P, bytes: &'a [u8]) -> &'a [u8]
         requires { self.old.count + length bytes.now < 2 ^ 64 }
         ensures rest { result.now ≡ drop (64 - self.old.count % 64) bytes.now }
-        ensures after { Takes (P.steps press.now) (take (64 - self.old.count % 64) bytes.now) self.old self.new }
+        ensures after { Takes (P.means press.now).steps (take (64 - self.old.count % 64) bytes.now) self.old self.new }
     {
         let fill = (self.count % 64) as usize;
         let (front, rest) = bytes.split_at((64 - fill).min(bytes.len()));
@@ -43,7 +43,7 @@ impl Midstate {
     // Takes all of `bytes` in, block by block.
     pub(crate) fn take_all<P: Press>(&mut self, press: &P, bytes: &[u8])
         requires { self.old.count + length bytes.now < 2 ^ 64 }
-        ensures { Takes (P.steps press.now) bytes.now self.old self.new }
+        ensures { Takes (P.means press.now).steps bytes.now self.old self.new }
     {
         let mut rest = bytes;
         while !rest.is_empty() {
@@ -54,7 +54,7 @@ impl Midstate {
     // Takes all parts in, one after the other.
     pub(crate) fn take_parts<P: Press>(&mut self, press: &P, parts: &[&[u8]])
         requires { self.old.count + length (flat_map (λ x. x.now) parts.now) < 2 ^ 64 }
-        ensures { Takes (P.steps press.now) (flat_map (λ x. x.now) parts.now) self.old self.new }
+        ensures { Takes (P.means press.now).steps (flat_map (λ x. x.now) parts.now) self.old self.new }
     {
         for part in parts {
             self.take_all(press, part);

@@ -23,7 +23,7 @@ pub fn digest<P: Press>(
     out: &mut [u8],
 ) -> Result<(), Refusal>
     ensures answer { outcome result ≡ digest_refusal size (length bytes.now) bits (length out.old) }
-    ensures written { MatchResult result (λ _. out.new ≡ digest_of (P.steps press.now) (P.opens press.now size) size (take bits (bits_of bytes.now)) ++ drop (size / 8) out.old) (λ _. out.new ≡ out.old) }
+    ensures written { MatchResult result (λ _. out.new ≡ digest_of (P.means press.now).steps ((P.means press.now).opens size) size (take bits (bits_of bytes.now)) ++ drop (size / 8) out.old) (λ _. out.new ≡ out.old) }
 {
     let size = DigestSize::try_from(size)?;
     if bytes.len() as u64 > MOST_BYTES {

@@ -4,6 +4,7 @@
 ghost use Rattle.std.specs.Prelude.{◌≡◌, List, ℕ};
 ghost use Rattle.byte_strings.specs.Bytes.{Bytes};
 ghost use Rattle.refusals.specs.Sizes.{bits_in};
+ghost use Rattle.press.specs.Meaning.{Meaning};
 ghost use Rattle.refusals.specs.declared.size.DigestSize.{DigestSize as Size};
 
 use refusals::refusal::Refusal;
@@ -22,38 +23,33 @@ pub type Chain = [u8; 128];
 // What is taken in at one step; a passage is one block.
 pub type Block = [u8; 64];
 
-// A press means four functions of the press and of what is given; a call answers its function's value, refuses nothing and
-// leaves the press as it is. `back` undoes `step`, and `step` undoes `back`, with the same block.
+// A press means four functions of the press and of what is given: three on the way forth, as one `Meaning`, and the way back. A call
+// answers its function's value, refuses nothing and leaves the press as it is. `back` undoes `step`, and `step` undoes `back`, with
+// the same block.
 pub trait Press {
-    // The opening value of a digest size in bits.
-    ghost opens: { Self → ℕ → List ℕ };
-
-    // The chain value after a block.
-    ghost steps: { Self → List ℕ → List ℕ → List ℕ };
+    // The opening value of a digest size, the chain value after a block, and the last block of a row of blocks.
+    ghost means: { Self → Meaning };
 
     // The chain value before a block.
     ghost backs: { Self → List ℕ → List ℕ → List ℕ };
 
-    // The last block of a row of that many blocks.
-    ghost ends: { Self → ℕ → List ℕ };
-
     fn opening(&self, size: DigestSize) -> Chain
-        ensures { result ≡ opens self.now (bits_in size) };
+        ensures { result ≡ (means self.now).opens (bits_in size) };
 
     fn step(&self, c: &Chain, m: &Block) -> Chain
-        ensures { result ≡ steps self.now c.now m.now };
+        ensures { result ≡ (means self.now).steps c.now m.now };
 
     fn back(&self, c: &Chain, m: &Block) -> Chain
         ensures { result ≡ backs self.now c.now m.now };
 
     fn ending(&self, count: u32) -> Block
-        ensures { result ≡ ends self.now count };
+        ensures { result ≡ (means self.now).ends count };
 
-    ghost opens_chain: { (p : Self) (s : Size) → Bytes 128 (opens p (bits_in s)) };
+    ghost opens_chain: { (p : Self) (s : Size) → Bytes 128 ((means p).opens (bits_in s)) };
 
-    ghost steps_chain: { (p : Self) (c m : List ℕ) → Bytes 128 c → Bytes 64 m → Bytes 128 (steps p c m) };
+    ghost steps_chain: { (p : Self) (c m : List ℕ) → Bytes 128 c → Bytes 64 m → Bytes 128 ((means p).steps c m) };
 
-    ghost back_of_step: { (p : Self) (c m : List ℕ) → Bytes 128 c → Bytes 64 m → backs p (steps p c m) m ≡ c };
+    ghost back_of_step: { (p : Self) (c m : List ℕ) → Bytes 128 c → Bytes 64 m → backs p ((means p).steps c m) m ≡ c };
 
-    ghost step_of_back: { (p : Self) (c m : List ℕ) → Bytes 128 c → Bytes 64 m → steps p (backs p c m) m ≡ c };
+    ghost step_of_back: { (p : Self) (c m : List ℕ) → Bytes 128 c → Bytes 64 m → (means p).steps (backs p c m) m ≡ c };
 }

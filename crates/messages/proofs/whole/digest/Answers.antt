@@ -12,7 +12,7 @@ returns g c =
     let n = c.args.size in
     let xs = c.args.bytes.now in
     let b = c.args.bits in
-    let st = g.P.Press.steps p in
+    let st = (g.P.Press.means p).steps in
     let o = c.opening.result in
     let z : bits_in c.in_ok-size.size ≡ n = c.in_ok-size.ensures.1 in
     let last = get_or xs (b / 8) 0 in
@@ -21,10 +21,10 @@ returns g c =
     let e = c.end.ensures.holds o (take (b / 8) xs) t in
     let h : Holds st o whole c.end.new.self =
     subst (λ (y : List ℕ). Holds st o y c.end.new.self) (ap (λ (l : ℕ). take (b / 8) xs ++ ending l b) c.last_byte.ensures) e in
-    let d : tail n c.end.new.self.chain ≡ digest_of st (g.P.Press.opens p n) n (take b (bits_of xs)) =
+    let d : tail n c.end.new.self.chain ≡ digest_of st ((g.P.Press.means p).opens n) n (take b (bits_of xs)) =
     ap (tail n) h.chained
     ∙ digest_from_bytes xs (λ k. omega (arith, c.type_inv.bytes k)) b (b / 8) (b % 8) (omega arith) (omega arith) (omega arith) st o n
-    ∙ ap (λ (y : List ℕ). digest_of st y n (take b (bits_of xs))) (c.opening.ensures ∙ ap (g.P.Press.opens p) z) in
+    ∙ ap (λ (y : List ℕ). digest_of st y n (take b (bits_of xs))) (c.opening.ensures ∙ ap (g.P.Press.means p).opens z) in
     record {
       answer = search rules;
       written =

@@ -9,9 +9,9 @@ use Rattle.messages.proofs.feeder.Feeder.finish.Goals as goal
 pub returns : goal.returns
 returns g c =
     let f = c.args.self.now in
-    let st = g.P.Press.steps f.press in
+    let st = (g.P.Press.means f.press).steps in
     let n = bits_in f.size in
-    let o = g.P.Press.opens f.press n in
+    let o = (g.P.Press.means f.press).opens n in
     let s = c.end.new.self in
     record {
       answer = search rules;

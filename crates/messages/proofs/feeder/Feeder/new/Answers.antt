@@ -4,7 +4,7 @@ use Rattle.messages.proofs.feeder.Feeder.new.Goals as goal
 
 pub returns : goal.returns
 returns g c =
-    let st = g.P.Press.steps c.args.press in
+    let st = (g.P.Press.means c.args.press).steps in
     record {
       press = refl;
       size = refl;

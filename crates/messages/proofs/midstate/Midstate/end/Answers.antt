@@ -12,5 +12,5 @@ returns g c =
     let z : take c.zero_bytes.result (replicate 111 0) ≡ replicate (zero_bytes b) 0 =
     ap (λ (k : ℕ). take k (replicate {A = ℕ} 111 0)) c.zero_bytes.ensures ∙ take-replicate {X = ℕ} (zero_bytes b) 111 0 (omega arith) in
     let y : c.to_be_bytes-count.result ≡ big_endian 16 c.from.result = simp div-one c.to_be_bytes-count.ensures in
-    subst (λ (x : List ℕ). Takes (g.P.Press.steps c.args.press.now) x c.args.self.now c.take_parts.new.self)
+    subst (λ (x : List ℕ). Takes (g.P.Press.means c.args.press.now).steps x c.args.self.now c.take_parts.new.self)
     (ap₂ (λ (p q : List ℕ). c.args.last ∷ (p ++ q)) z (append-nil c.to_be_bytes-count.result ∙ y ∙ ap (big_endian 16) c.from.ensures)) c.take_parts.ensures

@@ -10,7 +10,7 @@ loop-rest-preserved g c =
     let u = c.take_front-rest.new.self in
     let k : ℕ = 64 - s.count % 64 in
     let r = c.loop-rest.rest.now in
-    let step = g.P.Press.steps c.args.press.now in
+    let step = (g.P.Press.means c.args.press.now).steps in
     let e = c.take_front-rest.ensures.rest in
     let a = c.take_front-rest.ensures.after in (
       omega (arith, a.counted, c.loop-rest.invariant.0, ap length e, length-take k r, length-drop k r),
@@ -22,4 +22,4 @@ pub returns : goal.returns
 returns g c =
     let s = c.loop-rest.self in
     c.loop-rest.invariant.1 s
-    (subst (λ (y : List ℕ). Takes (g.P.Press.steps c.args.press.now) y s s) (take_all 0 c.loop-rest.rest.now (search rules)) (takes_none (g.P.Press.steps c.args.press.now) s))
+    (subst (λ (y : List ℕ). Takes (g.P.Press.means c.args.press.now).steps y s s) (take_all 0 c.loop-rest.rest.now (search rules)) (takes_none (g.P.Press.means c.args.press.now).steps s))

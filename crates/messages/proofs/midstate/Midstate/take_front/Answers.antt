@@ -12,7 +12,7 @@ returns-then-end-eq64-clause-after g c =
     let s = c.args.self.now in
     let f : ℕ = s.count % 64 in
     let x = c.split_at.result.0.now in
-    let step = g.P.Press.steps c.args.press.now in
+    let step = (g.P.Press.means c.args.press.now).steps in
     let e : x ≡ take (64 - f) b = c.split_at.ensures.front ∙ ap (λ (k : ℕ). take k b) c.min.ensures ∙ take_min (64 - f) b in
     takes_whole step (take (64 - f) b) s _ (ap (λ (y : List ℕ). s.count + length y) e) (small_take (64 - f) b (λ k. omega (arith, c.type_inv.bytes k)))
     (f + length x) (ap (λ (y : List ℕ). f + length y) (sym e)) (omega arith) c.if-end-eq64.true refl
@@ -25,7 +25,7 @@ returns-else-end-eq64-clause-after g c =
     let f : ℕ = s.count % 64 in
     let x = c.split_at.result.0.now in
     let e : x ≡ take (64 - f) b = c.split_at.ensures.front ∙ ap (λ (k : ℕ). take k b) c.min.ensures ∙ take_min (64 - f) b in
-    takes_part (g.P.Press.steps c.args.press.now) (take (64 - f) b) s _ (ap (λ (y : List ℕ). s.count + length y) e)
+    takes_part (g.P.Press.means c.args.press.now).steps (take (64 - f) b) s _ (ap (λ (y : List ℕ). s.count + length y) e)
     (small_take (64 - f) b (λ k. omega (arith, c.type_inv.bytes k)))
     (f + length x) (ap (λ (y : List ℕ). f + length y) (sym e)) (omega arith) (omega arith)
     (ap (put_mid f (f + length x - f) s.partial) (c.copy_from_slice.ensures.after ∙ e)) refl
