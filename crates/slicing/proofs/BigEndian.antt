@@ -1,5 +1,5 @@
 -- The bits of a number in big_endian bytes are those of the number.
-use Rattle.std.proofs.Common.{◌≡◌, ℕ, zero, suc, ◌+◌, ◌-◌, ◌*◌, ◌/◌, ◌%◌, ◌^◌, ◌<◌, ◌≤◌, Bool, true, false, not, T, ltb, List, [], ◌∷◌, get_or, sym, refl, ap, ◌∙◌, subst, ap₂, add-zero, pow-suc, arith, ltb→lt, nltb→le, pow-add}
+use Rattle.std.proofs.Common.{◌≡◌, ℕ, zero, suc, ◌+◌, ◌-◌, ◌*◌, ◌/◌, ◌%◌, ◌^◌, ◌<◌, ◌≤◌, Bool, true, false, not, T, ltb, List, get_or, sym, refl, ap, ◌∙◌, subst, ap₂, pow-suc, arith, ltb→lt, nltb→le, pow-add}
 use Rattle.byte_strings.specs.Bytes.{big_endian}
 use Rattle.jh.specs.Bit.{bit}
 use Rattle.jh.specs.Permutation.{byte_bit}

@@ -8,42 +8,57 @@ use permutation::Permutation;
 use sliced::Sliced;
 use std::alloc::Global;
 
-// Whether the first `bits` bits of a message have that digest over a permutation.
-fn has_digest_over<P: Permutation + Drop>(
-    permutation: P,
+// The first `bits` bits of a message, and what their digest of `size` bits is said to be.
+#[derive(Drop)]
+pub struct Digest {
     size: u32,
-    message: &[u8],
+    message: Vec<u8>,
     bits: u64,
-    theirs: &[u8],
-) -> bool {
-    let mut ours = [0; 64];
-    let length = (size as usize / 8).min(64);
-    digest(&JhPress::new(permutation), size, message, bits, &mut ours).is_ok()
-        && theirs == &ours[0..length]
+    theirs: Vec<u8>,
 }
 
-// Whether they have it over both permutations.
-fn has_digest(size: u32, message: &[u8], bits: u64, theirs: &[u8]) -> bool {
-    has_digest_over(Grouped, size, message, bits, theirs)
-        && has_digest_over(Sliced, size, message, bits, theirs)
-}
+impl Digest {
+    // What a line has: a digest size, a message of whole bytes and a digest.
+    pub fn of_bytes(heap: Global, line: &str) -> anyhow::Result<Digest> {
+        let mut fields = line.split('\t');
+        let size = fields.next().context("no size")?.parse::<u32>()?;
+        let message = hex::bytes_of(heap, fields.next().context("no message")?)?;
+        let theirs = hex::bytes_of(heap, fields.next().context("no digest")?)?;
+        let bits = (message.len() as u64).saturating_mul(8);
+        Ok(Digest {
+            size,
+            message,
+            bits,
+            theirs,
+        })
+    }
 
-// Whether a line, a digest size, a message of whole bytes and a digest, has our digest.
-pub fn agrees_whole(heap: Global, line: &str) -> anyhow::Result<bool> {
-    let mut fields = line.split('\t');
-    let size = fields.next().context("no size")?.parse::<u32>()?;
-    let message = hex::bytes_of(heap, fields.next().context("no message")?)?;
-    let theirs = hex::bytes_of(heap, fields.next().context("no digest")?)?;
-    let bits = (message.len() as u64).saturating_mul(8);
-    Ok(has_digest(size, &message, bits, &theirs))
-}
+    // What a line has: a count of bits, a message, a digest size and a digest.
+    pub fn of_bits(heap: Global, line: &str) -> anyhow::Result<Digest> {
+        let mut fields = line.split('\t');
+        let bits = fields.next().context("no count")?.parse::<u64>()?;
+        let message = hex::bytes_of(heap, fields.next().context("no message")?)?;
+        let size = fields.next().context("no size")?.parse::<u32>()?;
+        let theirs = hex::bytes_of(heap, fields.next().context("no digest")?)?;
+        Ok(Digest {
+            size,
+            message,
+            bits,
+            theirs,
+        })
+    }
 
-// Whether a line, a count of bits, a message, a digest size and a digest, has our digest.
-pub fn agrees_bits(heap: Global, line: &str) -> anyhow::Result<bool> {
-    let mut fields = line.split('\t');
-    let bits = fields.next().context("no count")?.parse::<u64>()?;
-    let message = hex::bytes_of(heap, fields.next().context("no message")?)?;
-    let size = fields.next().context("no size")?.parse::<u32>()?;
-    let theirs = hex::bytes_of(heap, fields.next().context("no digest")?)?;
-    Ok(has_digest(size, &message, bits, &theirs))
+    // Whether it is ours over a permutation.
+    fn is_ours_over<P: Permutation + Drop>(&self, permutation: P) -> bool {
+        let mut ours = [0; 64];
+        let length = (self.size as usize / 8).min(64);
+        let press = JhPress::new(permutation);
+        digest(&press, self.size, &self.message, self.bits, &mut ours).is_ok()
+            && self.theirs.as_slice() == &ours[..length]
+    }
+
+    // Whether it is ours over both permutations.
+    pub fn is_ours(&self) -> bool {
+        self.is_ours_over(Grouped) && self.is_ours_over(Sliced)
+    }
 }

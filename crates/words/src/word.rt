@@ -86,6 +86,7 @@ impl Not for Word {
 
 impl Word {
     // Neighbouring runs of bits of this width change places.
+    // Kept: a shift and a mask for each width, since the exchange is to be two shifts and a mask on a pair of 64 bits.
     pub fn exchange(self, width: Width) -> Word
         ensures { (i : ℕ) → i < 128 → word_bit result i ≡ word_bit self (bit_xor i (run_length width)) }
     {
@@ -107,16 +108,13 @@ fn exchange_runs(lanes: u64x2, n: u64, mask: u64) -> u64x2
     requires { n < 64 }
     ensures { result ≡ exchanged_half n mask (slice_index lanes 0) ∷ exchanged_half n mask (slice_index lanes 1) ∷ [] }
 {
-    let [high, low] = lanes.to_array();
-    let x = u64x2::from_array([high, low]);
     let shift = u64x2::splat(n);
     let kept = u64x2::splat(mask);
-    ((x & kept) << shift) | ((x >> shift) & kept)
+    ((lanes & kept) << shift) | ((lanes >> shift) & kept)
 }
 
 fn exchange_lanes(lanes: u64x2) -> u64x2
     ensures { result ≡ slice_index lanes 1 ∷ slice_index lanes 0 ∷ [] }
 {
-    let [high, low] = lanes.to_array();
-    u64x2::from_array([low, high])
+    lanes.reverse()
 }
