@@ -18,46 +18,56 @@ put_behind r x a e p q h =
     ∙ ap (λ (g : List ℕ). r ++ (x ++ g)) (drop-replicate {X = ℕ} (e - a) (64 - length r) 0 ∙ ap (λ (k : ℕ). replicate k 0) n)
     ∙ sym (append_assoc r x (replicate (64 - length (r ++ x)) 0))
 
-module _ (step : List ℕ → List ℕ → List ℕ) (opening m x : List ℕ) (s t : Midstate) (h : Holds step opening m s)
-    (e : ℕ) (end : s.count % 64 + length x ≡ e) (within : e ≤ 64) (counted : t.count ≡ s.count + length x)
-    (small : (k : ℕ) → get_or x k 0 < 256) where
-  written : put_mid (s.count % 64) (e - s.count % 64) s.partial x ≡ (rest m ++ x) ++ replicate (64 - length (rest m ++ x)) 0
-  written =
+module _ (step : List ℕ → List ℕ → List ℕ) (x : List ℕ) (s t : Midstate) (counted : t.count ≡ s.count + length x)
+    (small : (k : ℕ) → get_or x k 0 < 256) (e : ℕ) (end : s.count % 64 + length x ≡ e) (within : e ≤ 64) where
+  abbrev with_front : List ℕ
+  with_front = put_mid (s.count % 64) (e - s.count % 64) s.partial x
+
+  written : (opening m : List ℕ) → Holds step opening m s → with_front ≡ (rest m ++ x) ++ replicate (64 - length (rest m ++ x)) 0
+  written opening m h =
       ap (λ (p : List ℕ). put_mid (s.count % 64) (e - s.count % 64) p x) h.filled
       ∙ put_behind (rest m) x (s.count % 64) e (length_rest m x ∙ ap (λ (k : ℕ). k % 64) (sym h.counted)) end within
 
   -- within a block
-  pub holds_part : e < 64 → t.partial ≡ put_mid (s.count % 64) (e - s.count % 64) s.partial x → t.chain ≡ s.chain → Holds step opening (m ++ x) t
-  holds_part lt put same =
-      let l = length-append m x in
-      let c = h.counted in
-      let g : length m % 64 + length x < 64 = omega arith in
-      let q : length (m ++ x) / 64 ≡ length m / 64 = omega arith in
+  pub takes_part : e < 64 → t.partial ≡ with_front → t.chain ≡ s.chain → Takes step x s t
+  takes_part lt put same =
       record {
-        bytes = small_append m x h.bytes small;
-        counted = omega arith;
-        chained = same ∙ h.chained ∙ sym (through_append step opening m x (length m / 64) (omega arith)) ∙ ap (λ (k : ℕ). through step opening k (m ++ x)) (sym q);
-        filled = put ∙ written ∙ ap (λ (r : List ℕ). r ++ replicate (64 - length r) 0) (sym (rest_part m x g));
+        counted = counted;
+        holds = λ opening m h.
+            let l = length-append m x in
+            let c = h.counted in
+            let g : length m % 64 + length x < 64 = omega arith in
+            let q : length (m ++ x) / 64 ≡ length m / 64 = omega arith in
+            record {
+              bytes = small_append m x h.bytes small;
+              counted = omega arith;
+              chained = same ∙ h.chained ∙ sym (through_append step opening m x (length m / 64) (omega arith)) ∙ ap (λ (k : ℕ). through step opening k (m ++ x)) (sym q);
+              filled = put ∙ written opening m h ∙ ap (λ (r : List ℕ). r ++ replicate (64 - length r) 0) (sym (rest_part m x g));
+            };
       }
 
   -- up to the end of a block
-  pub holds_whole : e ≡ 64 → t.partial ≡ replicate 64 0 → t.chain ≡ step s.chain (put_mid (s.count % 64) (e - s.count % 64) s.partial x) → Holds step opening (m ++ x) t
-  holds_whole eq clear stepped =
-      let l = length-append m x in
-      let c = h.counted in
-      let g : length m % 64 + length x ≡ 64 = omega arith in
-      let q : length (m ++ x) / 64 ≡ suc (length m / 64) = omega arith in
-      let full : 64 - length (rest m ++ x) ≡ 0 = omega (arith, length-append (rest m) x, length_rest m x) in
-      let b : put_mid (s.count % 64) (e - s.count % 64) s.partial x ≡ block (m ++ x) (length m / 64) =
-      written ∙ ap (λ (k : ℕ). (rest m ++ x) ++ replicate k 0) full ∙ append-nil (rest m ++ x) ∙ sym (block_whole m x g) in
+  pub takes_whole : e ≡ 64 → t.partial ≡ replicate 64 0 → t.chain ≡ step s.chain with_front → Takes step x s t
+  takes_whole eq clear stepped =
       record {
-        bytes = small_append m x h.bytes small;
-        counted = omega arith;
-        chained =
-            stepped
-            ∙ ap₂ step (h.chained ∙ sym (through_append step opening m x (length m / 64) (omega arith))) b
-            ∙ ap (λ (k : ℕ). through step opening k (m ++ x)) (sym q);
-        filled = clear ∙ ap (λ (r : List ℕ). r ++ replicate (64 - length r) 0) (sym (rest_whole m x g));
+        counted = counted;
+        holds = λ opening m h.
+            let l = length-append m x in
+            let c = h.counted in
+            let g : length m % 64 + length x ≡ 64 = omega arith in
+            let q : length (m ++ x) / 64 ≡ suc (length m / 64) = omega arith in
+            let full : 64 - length (rest m ++ x) ≡ 0 = omega (arith, length-append (rest m) x, length_rest m x) in
+            let b : with_front ≡ block (m ++ x) (length m / 64) =
+            written opening m h ∙ ap (λ (k : ℕ). (rest m ++ x) ++ replicate k 0) full ∙ append-nil (rest m ++ x) ∙ sym (block_whole m x g) in
+            record {
+              bytes = small_append m x h.bytes small;
+              counted = omega arith;
+              chained =
+                  stepped
+                  ∙ ap₂ step (h.chained ∙ sym (through_append step opening m x (length m / 64) (omega arith))) b
+                  ∙ ap (λ (k : ℕ). through step opening k (m ++ x)) (sym q);
+              filled = clear ∙ ap (λ (r : List ℕ). r ++ replicate (64 - length r) 0) (sym (rest_whole m x g));
+            };
       }
 
 -- one piece after the other

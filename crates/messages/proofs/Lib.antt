@@ -1,4 +1,2 @@
 mod Grown
-mod Endings
 mod Marks
-mod Joins

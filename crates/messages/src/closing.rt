@@ -6,7 +6,7 @@ ghost use Rattle.refusals.specs.Sizes.{bits_in};
 ghost use Rattle.messages.specs.Holds.{Takes};
 
 use crate::midstate::Midstate;
-use crate::padding::Padding;
+use crate::padding::zero_bytes;
 use press::Press;
 use refusals::size::DigestSize;
 
@@ -16,8 +16,9 @@ impl Midstate {
         requires { self.old.count ≤ 2 ^ 40 }
         ensures { Takes (P.steps press.now) (ending last bits) self.old self.new }
     {
-        let padding = Padding::new(last, bits);
-        self.take_all(press, &padding.bytes[0..padding.len]);
+        let zeros = &[0; 111][..zero_bytes(bits)];
+        let count = u128::from(bits).to_be_bytes();
+        self.take_parts(press, &[&[last], zeros, &count]);
     }
 
     // Writes the last bytes of the chain value to the front of the buffer.
@@ -26,6 +27,6 @@ impl Midstate {
         ensures { out.new ≡ tail (bits_in size) self.now.chain ++ drop (bits_in size / 8) out.old }
     {
         let n = size.bytes();
-        out[0..n].copy_from_slice(&self.chain[128 - n..]);
+        out[..n].copy_from_slice(&self.chain[128 - n..]);
     }
 }

@@ -1,5 +1,5 @@
 // A message that is fed in parts.
-ghost use Rattle.std.specs.Prelude.{◌^◌, ◌≤◌};
+ghost use Rattle.std.specs.Prelude.{◌≡◌, ◌^◌, ◌≤◌};
 
 use crate::midstate::Midstate;
 use refusals::size::DigestSize;
@@ -11,4 +11,13 @@ pub struct Feeder<P> {
     pub(crate) size: DigestSize,
     pub(crate) state: Midstate,
     ghost few: { state.count ≤ 2 ^ 40 },
+}
+
+impl<P> Feeder<P> {
+    // The size of the digests.
+    pub fn size(&self) -> DigestSize
+        ensures { result ≡ self.now.size }
+    {
+        self.size
+    }
 }

@@ -7,7 +7,7 @@ ghost use Rattle.messages.specs.Stands.{Starts, Feeds, Writes};
 
 use crate::feeder::Feeder;
 use crate::midstate::Midstate;
-use crate::taking::fit;
+use crate::taking::room_left;
 use crate::whole::MOST_BYTES;
 use press::{Declined, Press};
 use refusals::refusal::Refusal;
@@ -27,7 +27,7 @@ impl<P: Press> Feeder<P> {
         ensures answer { is_ok result ≡ is_size size }
         ensures after { MatchResult result (λ f. Starts P.opens P.steps press f.size f × (bits_in f.size ≡ size)) (λ d. (d.press ≡ press) × (d.refusal ≡ Refusal.Size)) }
     {
-        match DigestSize::of_bits(size) {
+        match DigestSize::try_from(size) {
             Ok(size) => Ok(Feeder::new(press, size)),
             Err(refusal) => Err(Declined { press, refusal }),
         }
@@ -51,9 +51,7 @@ impl<P: Press> Feeder<P> {
         ensures answer { outcome result ≡ feed_refusal self.old.state.count (length (flat_map (λ x. x.now) parts.now)) }
         ensures after { MatchResult result (λ _. Feeds P.opens P.steps (flat_map (λ x. x.now) parts.now) self.old self.new) (λ _. self.new ≡ self.old) }
     {
-        if !fit(parts, MOST_BYTES - self.state.count) {
-            return Err(Refusal::Bytes);
-        }
+        room_left(parts, MOST_BYTES - self.state.count).ok_or(Refusal::Bytes)?;
         self.state.take_parts(&self.press, parts);
         Ok(())
     }

@@ -1,11 +1,13 @@
 // A midstate takes bytes in.
-ghost use Rattle.std.specs.Prelude.{◌≡◌, ℕ, ◌+◌, ◌-◌, ◌%◌, ◌^◌, ◌<◌, min, List, [], length, take, nat_le};
+ghost use Rattle.std.specs.Prelude.{◌≡◌, ℕ, ◌+◌, ◌-◌, ◌%◌, ◌^◌, ◌<◌, ◌≤◌, List, [], length, take, drop, SomeIff};
 ghost use Rattle.std.specs.List.{flat_map};
 ghost use Rattle.messages.specs.Holds.{Holds, Takes};
 
 use crate::midstate::Midstate;
 use press::{Chain, Press};
 
+// Kept: a press is given at each call, since a feeder owns its press and a digest borrows one; a struct of press and midstate is no
+// plainer, as a feeder would put it together and take it apart in each of its methods.
 impl Midstate {
     // The midstate of no bytes.
     pub(crate) fn new(opening: Chain) -> Self
@@ -20,21 +22,22 @@ impl Midstate {
     }
 
     // Takes the front of `bytes` into the partial block, as far as either goes, and steps when that block is full.
-    // Answers how many bytes it took.
-    pub(crate) fn take_front<P: Press>(&mut self, press: &P, bytes: &[u8]) -> usize
+    // Answers the rest of `bytes`.
+    pub(crate) fn take_front<'a, P: Press>(&mut self, press: &P, bytes: &'a [u8]) -> &'a [u8]
         requires { self.old.count + length bytes.now < 2 ^ 64 }
-        ensures taken { result ≡ min (length bytes.now) (64 - self.old.count % 64) }
-        ensures after { Takes (P.steps press.now) (take result bytes.now) self.old self.new }
+        ensures rest { result.now ≡ drop (64 - self.old.count % 64) bytes.now }
+        ensures after { Takes (P.steps press.now) (take (64 - self.old.count % 64) bytes.now) self.old self.new }
     {
         let fill = (self.count % 64) as usize;
-        let n = bytes.len().min(64 - fill);
-        self.partial[fill..fill + n].copy_from_slice(&bytes[0..n]);
-        self.count += n as u64;
-        if fill + n == 64 {
+        let (front, rest) = bytes.split_at((64 - fill).min(bytes.len()));
+        let end = fill + front.len();
+        self.partial[fill..end].copy_from_slice(front);
+        self.count += front.len() as u64;
+        if end == 64 {
             self.chain = press.step(&self.chain, &self.partial);
             self.partial = [0; 64];
         }
-        n
+        rest
     }
 
     // Takes all of `bytes` in, block by block.
@@ -42,9 +45,9 @@ impl Midstate {
         requires { self.old.count + length bytes.now < 2 ^ 64 }
         ensures { Takes (P.steps press.now) bytes.now self.old self.new }
     {
-        let mut at = 0;
-        while at < bytes.len() {
-            at += self.take_front(press, &bytes[at..]);
+        let mut rest = bytes;
+        while !rest.is_empty() {
+            rest = self.take_front(press, rest);
         }
     }
 
@@ -59,17 +62,13 @@ impl Midstate {
     }
 }
 
-// Whether the parts together have at most `room` bytes.
-pub(crate) fn fit(parts: &[&[u8]], room: u64) -> bool
-    ensures { result ≡ nat_le (length (flat_map (λ x. x.now) parts.now)) room }
+// What the parts leave of `room` bytes; none where they have more.
+pub(crate) fn room_left(parts: &[&[u8]], room: u64) -> Option<u64>
+    ensures { SomeIff result (length (flat_map (λ x. x.now) parts.now) ≤ room) (room - length (flat_map (λ x. x.now) parts.now)) }
 {
     let mut left = room;
     for part in parts {
-        let n = part.len() as u64;
-        if n > left {
-            return false;
-        }
-        left -= n;
+        left = left.checked_sub(part.len() as u64)?;
     }
-    true
+    Some(left)
 }

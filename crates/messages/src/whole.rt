@@ -25,7 +25,7 @@ pub fn digest<P: Press>(
     ensures answer { outcome result ≡ digest_refusal size (length bytes.now) bits (length out.old) }
     ensures written { MatchResult result (λ _. out.new ≡ digest_of (P.steps press.now) (P.opens press.now size) size (take bits (bits_of bytes.now)) ++ drop (size / 8) out.old) (λ _. out.new ≡ out.old) }
 {
-    let size = DigestSize::of_bits(size)?;
+    let size = DigestSize::try_from(size)?;
     if bytes.len() as u64 > MOST_BYTES {
         return Err(Refusal::Bytes);
     }
@@ -36,7 +36,7 @@ pub fn digest<P: Press>(
         return Err(Refusal::Buffer);
     }
     let mut state = Midstate::new(press.opening(size));
-    state.take_all(press, &bytes[0..(bits / 8) as usize]);
+    state.take_all(press, &bytes[..(bits / 8) as usize]);
     state.end(press, last_byte(bytes, bits), bits);
     state.write_tail(size, out);
     Ok(())

@@ -1,3 +1,2 @@
-mod Accepted
 mod Feeding
 mod Reported

@@ -1,23 +1,28 @@
 -- The report of a message, line by line.
-use Rattle.std.proofs.Common.{◌≡◌, ℕ, ◌+◌, ◌*◌, ◌/◌, ◌^◌, ◌≤◌, Bool, true, false, ltb, List, [], ◌∷◌, ◌++◌, length, take, drop, decimal, Result, sym, refl, ap, ◌∙◌, ap₂, arith, lit≤, MatchResult}
+use Rattle.std.proofs.Common.{◌≡◌, ℕ, ◌+◌, ◌*◌, ◌/◌, ◌^◌, ◌<◌, ◌≤◌, Bool, ltb, List, [], ◌∷◌, ◌++◌, length, take, drop, decimal, Ok, Err, Result, refl, ap, ◌∙◌, ap₂, arith, lit≤, MatchResult}
 use Rattle.std.specs.Fmt.{digits}
-use Rattle.std.proofs.lemmas.List.{length-append, length-drop, take_at, take_all}
-use Rattle.std.proofs.lemmas.Bool.{cond-true, cond-false}
+use Rattle.std.proofs.lemmas.List.{length-append, length-drop, take_at}
+use Rattle.std.proofs.lemmas.Bool.{cond-true, cond-false, lt-ltb, le-ltb}
 use Rattle.refusals.specs.declared.refusal.Refusal.{Refusal}
 use Rattle.refusals.specs.declared.size.DigestSize.{DigestSize}
 use Rattle.refusals.specs.declared.size.DigestSize.TheVariants.{D224, D256, D384, D512}
 use Rattle.refusals.specs.Sizes.{bits_in}
 use Rattle.refusals.specs.Refusals.{outcome, buffer_refusal}
+use Rattle.refusals.proofs.Numbers.{positive}
 use Rattle.fields.specs.Hex.{hex_of}
-use Rattle.fields.proofs.Texts.{then_part}
+use Rattle.fields.proofs.Texts.{then_part, length_hex}
 use Rattle.jh.specs.Message.{bits_of}
 use Rattle.jh.specs.Jh.{jh, jh_over, MeansE8}
 use Rattle.jh.proofs.Means.{means_jh}
 use Rattle.jh_digest.specs.Stands.{Writes}
 use Rattle.jh_digest.specs.declared.feeder.JhFeeder.{JhFeeder}
 use Rattle.summary.specs.Fed.{Holds}
-use Rattle.summary.specs.Report.{refusal_line, line, report_of, Adds}
-use Rattle.summary.proofs.Accepted.{accepted}
+use Rattle.summary.specs.Report.{refusal_line, line, lines, report_of, Adds, AddsLines}
+
+-- a call whose outcome is 0 was accepted
+accepted : {T : Type 0} (r : Result T Refusal) (A : Type 0) (B : Refusal → Type 0) → outcome r ≡ 0 → MatchResult r (λ _. A) B → A
+accepted (Ok x) A B e c = c
+accepted (Err d) A B e c = absurd (let no : ⊥ = omega (arith, positive d) in no)
 
 -- 64 bytes hold a digest of any size
 enough : (s : DigestSize) → buffer_refusal 64 (bits_in s / 8) ≡ 0
@@ -38,10 +43,6 @@ three_digits D224 = refl
 three_digits D256 = refl
 three_digits D384 = refl
 three_digits D512 = refl
-
-length_hex : (xs : List ℕ) → length (hex_of xs) ≡ 2 * length xs
-length_hex [] = refl
-length_hex (x ∷ xs) = omega (arith, length_hex xs)
 
 -- a feeder that is finished into 64 bytes writes the whole digest, and that has as many bytes as its size
 module _ {P : Type 0} (image : P → List ℕ → List ℕ) (p : P) (m : List ℕ) (s : DigestSize) (f : JhFeeder P) (held : Holds image p m s f) where
@@ -67,25 +68,24 @@ module _ (digest : ℕ → List Bool → List ℕ) (m : List ℕ) where
       let x : List ℕ = hex_of (digest size (bits_of m)) in
       omega (arith, length-append (decimal size) (9 ∷ (x ++ (10 ∷ []))), length-append x (10 ∷ []), length_hex (digest size (bits_of m)))
 
-  pub passed_report : ltb (2 ^ 40) (length m) ≡ true → report_of digest m ≡ refusal_line
-  unfolding report_of
-  passed_report e = cond-true (ltb (2 ^ 40) (length m)) refusal_line (line digest 224 m ++ (line digest 256 m ++ (line digest 384 m ++ line digest 512 m))) e
-
-  pub four_lines : (o a b c d : List ℕ) → o ≡ [] → ltb (2 ^ 40) (length m) ≡ false
-      → Adds digest 224 m o a → Adds digest 256 m a b → Adds digest 384 m b c → Adds digest 512 m c d → d ≡ report_of digest m
-  unfolding report_of
-  four_lines o a b c d z e p q r s =
+  pub four_lines : (o a b c d : List ℕ) → Adds digest 224 m o a → Adds digest 256 m a b → Adds digest 384 m b c → Adds digest 512 m c d → AddsLines digest m o d
+  four_lines o a b c d p q r s =
       let l1 : List ℕ = line digest 224 m in
       let l2 : List ℕ = line digest 256 m in
       let l3 : List ℕ = line digest 384 m in
       let l4 : List ℕ = line digest 512 m in
-      let all : List ℕ = l1 ++ (l2 ++ (l3 ++ l4)) in
-      let n : length all ≤ 364 =
-      omega (arith, p.long, q.long, r.long, s.long, length-append l1 (l2 ++ (l3 ++ l4)), length-append l2 (l3 ++ l4), length-append l3 l4) in
-      then_part 364 o a d l1 (l2 ++ (l3 ++ l4)) p.text (then_part 364 a b d l2 (l3 ++ l4) q.text (then_part 364 b c d l3 l4 r.text s.text))
-      ∙ ap (λ (w : List ℕ). take 364 (w ++ all)) z
-      ∙ take_all 364 all n
-      ∙ sym (cond-false (ltb (2 ^ 40) (length m)) refusal_line all e)
+      record {
+        long = omega (arith, p.long, q.long, r.long, s.long, length-append l1 (l2 ++ (l3 ++ l4)), length-append l2 (l3 ++ l4), length-append l3 l4);
+        text = then_part 364 o a d l1 (l2 ++ (l3 ++ l4)) p.text (then_part 364 a b d l2 (l3 ++ l4) q.text (then_part 364 b c d l3 l4 r.text s.text));
+      }
+
+  pub refusal_reported : 2 ^ 40 < length m → report_of digest m ≡ refusal_line
+  unfolding report_of
+  refusal_reported h = cond-true (ltb (2 ^ 40) (length m)) refusal_line (lines digest m) (lt-ltb (2 ^ 40) (length m) h)
+
+  pub lines_reported : length m ≤ 2 ^ 40 → report_of digest m ≡ lines digest m
+  unfolding report_of
+  lines_reported h = cond-false (ltb (2 ^ 40) (length m)) refusal_line (lines digest m) (le-ltb (2 ^ 40) (length m) h)
 
 -- over a permutation that means E8, the report of JH
 pub report_jh : (f : List ℕ → List ℕ) → MeansE8 f → (m : List ℕ) → report_of (jh_over f) m ≡ report_of jh m

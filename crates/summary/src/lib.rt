@@ -1,6 +1,5 @@
 // The four digests of one message, as lines of text.
 #![tactic(auto)]
 
-mod reporting;
+mod feeders;
 pub mod summary;
-mod summing;

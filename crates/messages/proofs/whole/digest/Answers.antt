@@ -1,4 +1,4 @@
-use Rattle.std.proofs.Common.{◌≡◌, ℕ, ◌-◌, ◌/◌, ◌%◌, List, [], ◌++◌, get_or, take, drop, ap, ◌∙◌, subst, ap₂, arith, rules}
+use Rattle.std.proofs.Common.{◌≡◌, ℕ, ◌/◌, ◌%◌, List, [], ◌++◌, get_or, take, drop, ap, ◌∙◌, subst, arith, rules}
 use Rattle.jh.specs.Message.{bits_of, digest_of, tail}
 use Rattle.jh.specs.Ending.{ending, marked}
 use Rattle.jh.proofs.Padded.{digest_from_bytes}
@@ -14,14 +14,13 @@ returns g c =
     let b = c.args.bits in
     let st = g.P.Press.steps p in
     let o = c.opening.result in
-    let z : bits_in c.in_ok-size.size ≡ n = c.in_ok-size.ensures.size in
-    let q : b / 8 - 0 ≡ b / 8 = omega arith in
+    let z : bits_in c.in_ok-size.size ≡ n = c.in_ok-size.ensures.1 in
     let last = get_or xs (b / 8) 0 in
     let whole : List ℕ = take (b / 8) xs ++ ending (marked (b % 8) last) b in
     let t = c.take_all.ensures.holds o [] (c.new-state.ensures.holds st) in
-    let e = c.end.ensures.holds o (take (b / 8 - 0) xs) t in
+    let e = c.end.ensures.holds o (take (b / 8) xs) t in
     let h : Holds st o whole c.end.new.self =
-    subst (λ (y : List ℕ). Holds st o y c.end.new.self) (ap₂ (λ (k l : ℕ). take k xs ++ ending l b) q c.last_byte.ensures) e in
+    subst (λ (y : List ℕ). Holds st o y c.end.new.self) (ap (λ (l : ℕ). take (b / 8) xs ++ ending l b) c.last_byte.ensures) e in
     let d : tail n c.end.new.self.chain ≡ digest_of st (g.P.Press.opens p n) n (take b (bits_of xs)) =
     ap (tail n) h.chained
     ∙ digest_from_bytes xs (λ k. omega (arith, c.type_inv.bytes k)) b (b / 8) (b % 8) (omega arith) (omega arith) (omega arith) st o n

@@ -3,17 +3,12 @@ use Rattle.std.proofs.lemmas.Result.{MatchResult-weaker}
 use Rattle.jh.specs.Message.{bits_of}
 use Rattle.jh.proofs.Means.{means_jh}
 use Rattle.refusals.specs.Sizes.{bits_in}
-use Rattle.jh_digest.proofs.Made.{made_from_cases}
 use Rattle.jh_digest.proofs.feeder.JhFeeder.finish.Goals as goal
 
-pub returns : goal.returns
-returns g c =
+pub returns-clause-jh : goal.returns-clause-jh
+returns-clause-jh g c = λ e.
     let f = c.args.self.now.feeder in
     let n = bits_in f.size in
-    record {
-      answer = c.finish.ensures.answer;
-      written = c.finish.ensures.written;
-      jh = λ e. made_from_cases c.finish.result _ c.finish.ensures.written
-          (λ u w m h. w m h ∙ ap (λ (d : List ℕ). d ++ drop (n / 8) c.args.out.now) (means_jh (g.P.Permutation.image f.press.permutation) e n (bits_of m)));
-      after = MatchResult-weaker c.finish.result c.finish.ensures.after (λ u w. w) (λ u w. ap (λ x. record { feeder = x }) w);
-    }
+    MatchResult-weaker c.finish.result c.finish.ensures.written
+    (λ u w m h. w m h ∙ ap (λ (d : List ℕ). d ++ drop (n / 8) c.args.out.now) (means_jh (g.P.Permutation.image f.press.permutation) e n (bits_of m)))
+    (λ u w. tt)

@@ -1,9 +1,14 @@
-use Rattle.std.proofs.Common.{◌-◌, ◌≤◌, length, take}
+use Rattle.std.proofs.Common.{◌≡◌, ◌+◌, length}
 use Rattle.messages.specs.Holds.{Takes}
+use Rattle.messages.specs.declared.midstate.Midstate.{Midstate}
 use Rattle.messages.proofs.midstate.Midstate.take_all.Given as goal
 
-abbrev pub invariant-loop-at : goal.invariant-loop-at
-invariant-loop-at g l = (l.at ≤ length l.bytes) × Takes (g.P.Press.steps l.press) (take l.at l.bytes) l.initial.self l.self
+-- what takes the rest in after this takes all in
+abbrev pub invariant-loop-rest : goal.invariant-loop-rest
+invariant-loop-rest g l =
+    let step = g.P.Press.steps l.press in
+    (l.self.count + length l.rest ≡ l.initial.self.count + length l.bytes)
+    × ((t : Midstate) → Takes step l.rest l.self t → Takes step l.bytes l.initial.self t)
 
-abbrev pub decreases-loop-at : goal.decreases-loop-at
-decreases-loop-at g l = length l.bytes - l.at
+abbrev pub decreases-loop-rest : goal.decreases-loop-rest
+decreases-loop-rest g l = length l.rest
