@@ -20,6 +20,7 @@ pub extern "C" fn gobutlin_jh(size: u32, message: &[u8], out: &mut [u8]) -> u32
 }
 
 // The same by the grouped permutation.
+// Kept: the C interface has a name for each form of the permutation; both hand on to one function.
 #[unsafe(no_mangle)]
 pub extern "C" fn gobutlin_jh_grouped(size: u32, message: &[u8], out: &mut [u8]) -> u32
     ensures answer { result ≡ refusal size message.now out.old }
@@ -41,6 +42,6 @@ fn digest_of_bytes<P: Permutation>(
     let bits = 8 * (message.len() as u64).min(1 << 40);
     match digest(press, size, message, bits, out) {
         Ok(()) => 0,
-        Err(refusal) => refusal.number() as u32,
+        Err(refusal) => u32::from(u8::from(refusal)),
     }
 }

@@ -1,5 +1,5 @@
 -- Rows that are read in chunks, and rows that are written pair by pair.
-use Rattle.std.proofs.Common.{◌≡◌, ◌≢◌, ℕ, set, get_or-set_other, get_or-set_same, below_more, zero, suc, ◌+◌, ◌-◌, ◌*◌, ◌/◌, ◌%◌, ◌<◌, List, [], length, get_or, take, drop, sym, refl, ap, ◌∙◌, subst, inl, inr, arith, not-suc-le-zero, le_of_suc-le-suc}
+use Rattle.std.proofs.Common.{◌≡◌, ◌≢◌, ℕ, set, get_or-set_other, get_or-set_same, below_more, zero, suc, ◌+◌, ◌*◌, ◌/◌, ◌%◌, ◌<◌, List, [], length, get_or, drop, sym, ap, ◌∙◌, subst, inl, inr, arith, not-suc-le-zero, le_of_suc-le-suc}
 use Rattle.std.proofs.Math.Nat.{mul-suc}
 use Rattle.std.specs.Simd.{first_chunks}
 use Rattle.std.proofs.ByRecursion.{All-get_or, All-from_get_or}

@@ -53,7 +53,7 @@ impl<const N: usize> Elements<N> {
         ensures { self.new ≡ boxed (chosen s0.now s1.now) (bits constant.now) self.old }
     {
         for (i, element) in self.places.iter_mut().enumerate() {
-            *element = look_up(s0, s1, bit_of(constant, i), *element);
+            *element = look_up(s0, s1, bit_of::<4>(constant, i), *element);
         }
     }
 
@@ -105,12 +105,14 @@ impl<const N: usize> Elements<N> {
         ensures { self.new ≡ unpermuted self.old }
     {
         let from = self.places;
-        for i in 0..N / 4 {
-            let (low, high, four) = (2 * i, N / 2 + 2 * i, 4 * i);
-            self.places[four] = from[low];
-            self.places[four + 1] = from[high + 1];
-            self.places[four + 2] = from[high];
-            self.places[four + 3] = from[low + 1];
+        let (low, high) = from.split_at(N / 2);
+        let high = high.as_chunks::<2>().0;
+        for (i, &[a, d]) in low.as_chunks::<2>().0.iter().enumerate() {
+            let [c, b] = high[i];
+            self.places[4 * i] = a;
+            self.places[4 * i + 1] = b;
+            self.places[4 * i + 2] = c;
+            self.places[4 * i + 3] = d;
         }
     }
 

@@ -1,27 +1,21 @@
 // A state of 128 bytes as 256 elements, and back.
-ghost use Rattle.std.specs.Prelude.{◌≡◌, ◌<◌};
+ghost use Rattle.std.specs.Prelude.{◌≡◌, ◌+◌, ◌<◌, false, slice_index_or};
 ghost use Rattle.jh.specs.Bit.{element as element_by};
-ghost use Rattle.jh.specs.Permutation.{byte_bit, element_from, grouped_bit, byte_from};
+ghost use Rattle.jh.specs.Permutation.{element_from, grouped_bit, byte_from};
 ghost use Rattle.jh.specs.Permutation.{group as group_of};
 ghost use Rattle.jh.specs.Permutation.{ungroup as ungroup_of};
 
 use crate::elements::Elements;
+use crate::layers::bit_of;
 use std::array;
 
 // An element by its bits, the highest first.
-fn element(a: bool, b: bool, c: bool, d: bool) -> u8
-    ensures value { result ≡ element_by a b c d }
+fn element(bits: [bool; 4]) -> u8
+    ensures value { result ≡ element_by (slice_index_or bits 0 false) (slice_index_or bits 1 false) (slice_index_or bits 2 false) (slice_index_or bits 3 false) }
     ensures small { result < 16 }
 {
-    a as u8 * 8 + b as u8 * 4 + c as u8 * 2 + d as u8
-}
-
-// Bit j of the state, the highest bit of byte 0 first.
-fn state_bit(state: &[u8; 128], j: usize) -> bool
-    requires { j < 1024 }
-    ensures { result ≡ byte_bit state.now j }
-{
-    (state[j / 8] >> (7 - j % 8)) % 2 == 1
+    let [a, b, c, d] = bits.map(u8::from);
+    a * 8 + b * 4 + c * 2 + d
 }
 
 // The element at place p: even places take their bits from the places i, i + 256, i + 512 and i + 768 of the state, odd ones
@@ -31,12 +25,7 @@ fn element_at(state: &[u8; 128], p: usize) -> u8
     ensures { result ≡ element_from state.now p }
 {
     let i = p % 2 * 128 + p / 2;
-    element(
-        state_bit(state, i),
-        state_bit(state, i + 256),
-        state_bit(state, i + 512),
-        state_bit(state, i + 768),
-    )
+    element(array::from_fn(|k| bit_of::<8>(state, i + 256 * k)))
 }
 
 // The elements of a state.
@@ -54,24 +43,21 @@ fn grouped_bit(elements: &[u8; 256], j: usize) -> bool
     (elements[2 * (j % 128) + j / 128 % 2] >> (3 - j / 256)) % 2 == 1
 }
 
+// Four bits from bit j on of the state that the elements were grouped from.
+fn four_bits(elements: &[u8; 256], j: usize) -> u8
+    requires { j < 1021 }
+    ensures value { result ≡ element_by (grouped_bit elements.now j) (grouped_bit elements.now (j + 1)) (grouped_bit elements.now (j + 2)) (grouped_bit elements.now (j + 3)) }
+    ensures small { result < 16 }
+{
+    element(array::from_fn(|k| grouped_bit(elements, j + k)))
+}
+
 // Byte b of the state that the elements were grouped from.
 fn byte_at(elements: &[u8; 256], b: usize) -> u8
     requires { b < 128 }
     ensures { result ≡ byte_from elements.now b }
 {
-    let high = element(
-        grouped_bit(elements, 8 * b),
-        grouped_bit(elements, 8 * b + 1),
-        grouped_bit(elements, 8 * b + 2),
-        grouped_bit(elements, 8 * b + 3),
-    );
-    let low = element(
-        grouped_bit(elements, 8 * b + 4),
-        grouped_bit(elements, 8 * b + 5),
-        grouped_bit(elements, 8 * b + 6),
-        grouped_bit(elements, 8 * b + 7),
-    );
-    16 * high + low
+    16 * four_bits(elements, 8 * b) + four_bits(elements, 8 * b + 4)
 }
 
 // The state that the elements were grouped from.

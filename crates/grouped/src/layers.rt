@@ -1,9 +1,10 @@
 // What the layers of a round make of one element, and of a pair: the S-boxes, L and its inverse.
-ghost use Rattle.std.specs.Prelude.{◌≡◌, ◌*◌, ◌<◌, false, length, slice_index_or};
+// Kept: an element is a `u8` below 16 by clause; with a type of its own, rows, tables and constants would be unwrapped at each use.
+ghost use Rattle.std.specs.Prelude.{◌≡◌, ◌-◌, ◌/◌, ◌%◌, ◌<◌, ◌≤◌, length, slice_index};
+ghost use Rattle.jh.specs.Bit.{bit};
 ghost use Rattle.jh.specs.Field.{times};
 ghost use Rattle.jh.specs.Round.{first, second};
 ghost use Rattle.jh.specs.Inverse.{unfirst, unsecond};
-ghost use Rattle.jh.specs.Permutation.{bits};
 ghost use Rattle.grouped.specs.Chosen.{chosen};
 
 // What the S-box that a constant bit chooses makes of `a`: `s0` where the bit is 0, `s1` where it is 1.
@@ -14,12 +15,13 @@ pub(crate) fn look_up(s0: &[u8; 16], s1: &[u8; 16], bit: bool, a: u8) -> u8
     if bit { s1[a as usize] } else { s0[a as usize] }
 }
 
-// Bit i of a row of elements, the highest bit of each first.
-pub(crate) fn bit_of(row: &[u8], i: usize) -> bool
-    requires { i < 4 * length row.now }
-    ensures { result ≡ slice_index_or (bits row.now) i false }
+// Bit i of a row of numbers of WIDTH bits, the highest bit of each first.
+pub(crate) fn bit_of<const WIDTH: usize>(row: &[u8], i: usize) -> bool
+    requires width { (0 < WIDTH) × (WIDTH ≤ 8) }
+    requires place { i / WIDTH < length row.now }
+    ensures { result ≡ bit (slice_index row.now (i / WIDTH)) (WIDTH - 1 - i % WIDTH) }
 {
-    (row[i / 4] >> (3 - i % 4)) % 2 == 1
+    (row[i / WIDTH] >> (WIDTH - 1 - i % WIDTH)) % 2 == 1
 }
 
 // Twice an element, as a binary polynomial modulo x^4 + x + 1.

@@ -1,13 +1,11 @@
 -- The layers of a round as loops write them: a row of elements that is written over, the first places so far.
-use Rattle.std.proofs.Common.{◌≡◌, ℕ, zero, suc, ◌+◌, ◌-◌, ◌*◌, ◌/◌, ◌%◌, ◌<◌, Bool, false, List, [], ◌∷◌, length, get_or, set, sym, refl, ap, ◌∙◌, subst, ap₂, arith}
-use Rattle.std.proofs.ByRecursion.{All-get_or}
+use Rattle.std.proofs.Common.{◌≡◌, ℕ, zero, suc, ◌+◌, ◌-◌, ◌*◌, ◌/◌, ◌%◌, ◌<◌, Bool, false, List, [], ◌∷◌, length, get_or, set, sym, refl, ap, ◌∙◌, ap₂, arith}
 use Rattle.byte_strings.proofs.Over.{over, over_at, over_more}
 use Rattle.jh.specs.Bit.{bit}
 use Rattle.jh.specs.Round.{boxed, paired}
 use Rattle.jh.specs.Permutation.{bits}
-use Rattle.jh.proofs.Places.{boxed_at, paired_even, paired_odd}
+use Rattle.jh.proofs.Places.{boxed_at}
 use Rattle.jh.proofs.Undone.{Twos, empty, two, twos}
-use Rattle.jh.proofs.Rounds.{Small}
 
 -- bit i of a row of elements
 pub bits_at : (cs : List ℕ) (i : ℕ) → i < 4 * length cs → get_or (bits cs) i false ≡ bit (get_or cs (i / 4) 0) (3 - i % 4)
@@ -43,9 +41,6 @@ module _ (box : Bool → ℕ → ℕ) (cs : List Bool) (xs : List ℕ) (e : leng
   read : get_or ys i 0 ≡ get_or xs i 0
   read = ap (λ (zs : List ℕ). get_or zs i 0) row ∙ over_at i (boxed box cs xs) xs i (length_boxed box cs xs e) (omega arith) h
 
-  pub box_small : Small xs → get_or ys i 0 < 16
-  box_small s = subst (λ (a : ℕ). a < 16) (sym read) (All-get_or (λ a. a < 16) xs i 0 h s)
-
   pub box_more : (c : Bool) (v : ℕ) → c ≡ get_or cs i false → v ≡ box c (get_or ys i 0) → set ys i v ≡ over (i + 1) (boxed box cs xs) xs
   box_more c v f g =
       ap₂ (λ (zs : List ℕ) (a : ℕ). set zs i a) row (g ∙ ap₂ box f read ∙ sym (boxed_at box cs xs i (omega arith) h))
@@ -60,24 +55,3 @@ module _ (left right : ℕ → ℕ → ℕ) where
 
   pub length_paired : (xs : List ℕ) → length xs % 2 ≡ 0 → length (paired left right xs) ≡ length xs
   length_paired xs e = length_twos_paired (twos (length xs / 2) xs (omega arith))
-
-  -- the row ys after i pairs
-  module _ (xs : List ℕ) (e : length xs % 2 ≡ 0) (i : ℕ) (h : 2 * i + 1 < length xs) (ys : List ℕ) (row : ys ≡ over (2 * i) (paired left right xs) xs) where
-    read_even : get_or ys (2 * i) 0 ≡ get_or xs (2 * i) 0
-    read_even = ap (λ (zs : List ℕ). get_or zs (2 * i) 0) row ∙ over_at (2 * i) (paired left right xs) xs (2 * i) (length_paired xs e) (omega arith) (omega arith)
-
-    read_odd : get_or ys (2 * i + 1) 0 ≡ get_or xs (2 * i + 1) 0
-    read_odd = ap (λ (zs : List ℕ). get_or zs (2 * i + 1) 0) row ∙ over_at (2 * i) (paired left right xs) xs (2 * i + 1) (length_paired xs e) (omega arith) h
-
-    pub pair_small : Small xs → (get_or ys (2 * i) 0 < 16) × (get_or ys (2 * i + 1) 0 < 16)
-    pair_small s = (
-      subst (λ (a : ℕ). a < 16) (sym read_even) (All-get_or (λ a. a < 16) xs (2 * i) 0 (omega arith) s),
-      subst (λ (a : ℕ). a < 16) (sym read_odd) (All-get_or (λ a. a < 16) xs (2 * i + 1) 0 h s),
-    )
-
-    pub pair_more : (p : ℕ × ℕ) → p ≡ (left (get_or ys (2 * i) 0) (get_or ys (2 * i + 1) 0), right (get_or ys (2 * i) 0) (get_or ys (2 * i + 1) 0))
-        → set (set ys (2 * i) p.0) (2 * i + 1) p.1 ≡ over (2 * (i + 1)) (paired left right xs) xs
-    pair_more p f =
-        let a = ap (λ (q : ℕ × ℕ). q.0) f ∙ ap₂ left read_even read_odd ∙ sym (paired_even left right xs i h) in
-        let b = ap (λ (q : ℕ × ℕ). q.1) f ∙ ap₂ right read_even read_odd ∙ sym (paired_odd left right xs i h) in
-        (λ j. set (set (row j) (2 * i) (a j)) (2 * i + 1) (b j)) ∙ two_more i (paired left right xs) xs (length_paired xs e) h

@@ -5,15 +5,12 @@ use jh_digest::whole::digest;
 use jh_press::JhPress;
 use refusals::refusal::Refusal;
 use refusals::size::DigestSize;
+use std::array;
 use std::test::Fail;
 
 // A message of 200 bytes.
 fn message() -> [u8; 200] {
-    let mut m = [0; 200];
-    for i in 0..200 {
-        m[i] = (i * 7 % 251) as u8;
-    }
-    m
+    array::from_fn(|i| (i * 7 % 251) as u8)
 }
 
 // The digest of 512 bits in one call.

@@ -1,5 +1,4 @@
-use Rattle.std.proofs.Common.{◌≡◌, ℕ, ◌+◌, ◌*◌, ◌/◌, ◌<◌, List, [], length, get_or, set, ap, ◌∙◌, arith}
-use Rattle.std.specs.Simd.{first_chunks}
+use Rattle.std.proofs.Common.{◌≡◌, ℕ, ◌+◌, ◌*◌, ◌/◌, List, length, set, ap, ◌∙◌, arith}
 use Rattle.jh.specs.Round.{permute}
 use Rattle.jh.proofs.Moves.{moving, moving_none, moving_more, moving_all}
 use Rattle.jh.proofs.Turns.{permuted}

@@ -1,8 +1,8 @@
-use Rattle.std.proofs.Common.{◌≡◌, ℕ, ◌*◌, Bool, length, ap, ◌∙◌, arith}
+use Rattle.std.proofs.Common.{ℕ, Bool, sym, ap, ◌∙◌, arith}
 use Rattle.byte_strings.proofs.Over.{over_all}
 use Rattle.jh.specs.Round.{boxed}
 use Rattle.jh.specs.Permutation.{bits}
-use Rattle.jh.proofs.Layers.{length_boxed, box_small, box_more}
+use Rattle.jh.proofs.Layers.{bits_at, length_boxed, box_more}
 use Rattle.jh.proofs.Turns.{same_long, boxed_row}
 use Rattle.grouped.specs.Chosen.{chosen}
 use Rattle.grouped.proofs.elements.Elements.substitute.Goals as goal
@@ -13,7 +13,7 @@ loop-i-preserved g c =
     let xs = c.self.inside.places in
     let e = same_long c.args.constant.now xs (c.self.invariant.1.long ∙ c.requires.matched) in
     box_more box (bits c.args.constant.now) xs e c.loop-i.i (omega (arith, c.self.invariant.1.long)) c.loop-i.element-items c.loop-i.invariant
-    c.bit_of.result c.look_up.result c.bit_of.ensures c.look_up.ensures
+    c.bit_of.result c.look_up.result (c.bit_of.ensures ∙ sym (bits_at c.args.constant.now c.loop-i.i (omega (arith, c.requires.matched)))) c.look_up.ensures
 
 pub invariant_of-self : goal.invariant_of-self
 invariant_of-self g c =
