@@ -11,6 +11,7 @@ use refusals::refusal::Refusal;
 // Writes the digest of `size` bits of a message to the front of the buffer, and leaves the rest of the buffer.
 // The message is the first `bits` bits of `bytes`. Over a permutation that means E8, the digest is JH's.
 // Refuses a size that is none of the four, more than 2^40 bytes, more bits than the bytes have, and a buffer that is too short, in this order.
+// Kept: the digest over any press cannot name JH in its contract, and nothing plainer says that here it is JH's.
 pub fn digest<P: Permutation>(
     press: &JhPress<P>,
     size: u32,

@@ -3,3 +3,4 @@
 
 mod feeders;
 pub mod summary;
+mod writing;

@@ -1,4 +1,4 @@
-use Rattle.std.proofs.Common.{◌≡◌, ℕ, ◌/◌, ◌%◌, List, [], ◌++◌, get_or, take, drop, ap, ◌∙◌, subst, arith, rules}
+use Rattle.std.proofs.Common.{◌≡◌, ℕ, ◌/◌, ◌%◌, List, [], ◌++◌, get_or, take, drop, ap, ◌∙◌, subst, arith}
 use Rattle.jh.specs.Message.{bits_of, digest_of, tail}
 use Rattle.jh.specs.Ending.{ending, marked}
 use Rattle.jh.proofs.Padded.{digest_from_bytes}
@@ -6,8 +6,8 @@ use Rattle.refusals.specs.Sizes.{bits_in}
 use Rattle.messages.specs.Holds.{Holds}
 use Rattle.messages.proofs.whole.digest.Goals as goal
 
-pub returns : goal.returns
-returns g c =
+pub returns-clause-written : goal.returns-clause-written
+returns-clause-written g c =
     let p = c.args.press.now in
     let n = c.args.size in
     let xs = c.args.bytes.now in
@@ -25,10 +25,6 @@ returns g c =
     ap (tail n) h.chained
     ∙ digest_from_bytes xs (λ k. omega (arith, c.type_inv.bytes k)) b (b / 8) (b % 8) (omega arith) (omega arith) (omega arith) st o n
     ∙ ap (λ (y : List ℕ). digest_of st y n (take b (bits_of xs))) (c.opening.ensures ∙ ap (g.P.Press.means p).opens z) in
-    record {
-      answer = search rules;
-      written =
-          c.write_tail.ensures
-          ∙ ap (λ (y : ℕ). tail y c.end.new.self.chain ++ drop (y / 8) c.args.out.now) z
-          ∙ ap (λ (y : List ℕ). y ++ drop (n / 8) c.args.out.now) d;
-    }
+    c.write_tail.ensures
+    ∙ ap (λ (y : ℕ). tail y c.end.new.self.chain ++ drop (y / 8) c.args.out.now) z
+    ∙ ap (λ (y : List ℕ). y ++ drop (n / 8) c.args.out.now) d
