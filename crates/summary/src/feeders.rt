@@ -1,6 +1,5 @@
 // Four feeders that are fed one message.
 ghost use Rattle.std.specs.Prelude.{ℕ, ◌+◌, ◌^◌, ◌<◌, ◌≤◌, List, [], ◌++◌, length, MatchResult};
-ghost use Rattle.fields.specs.Texts.{written};
 ghost use Rattle.jh.specs.Jh.{jh_over};
 ghost use Rattle.refusals.specs.Sizes.{bits_in};
 ghost use Rattle.refusals.specs.declared.size.DigestSize.{DigestSize as Size};
@@ -50,7 +49,7 @@ impl<P: Permutation + Copy> Feeders<P> {
 
     // Finishes the feeders, and adds the lines of their digests to a text, sizes rising.
     pub(crate) fn push_lines(&mut self, text: &mut Text<364>)
-        ensures { (p : P) (m : List ℕ) → Four P.image p m self.old → AddsLines (jh_over (P.image p)) m (written 364 text.old) (written 364 text.new) }
+        ensures { (p : P) (m : List ℕ) → Four P.image p m self.old → AddsLines (jh_over (P.image p)) m text.old text.new }
     {
         push_line(text, &mut self.d224);
         push_line(text, &mut self.d256);
@@ -61,7 +60,7 @@ impl<P: Permutation + Copy> Feeders<P> {
 
 // Finishes a feeder, and adds the line of its digest to a text.
 fn push_line<P: Permutation>(text: &mut Text<364>, feeder: &mut JhFeeder<P>)
-    ensures { (p : P) (m : List ℕ) (s : Size) → Holds P.image p m s feeder.old → Adds (jh_over (P.image p)) (bits_in s) m (written 364 text.old) (written 364 text.new) }
+    ensures { (p : P) (m : List ℕ) (s : Size) → Holds P.image p m s feeder.old → Adds (jh_over (P.image p)) (bits_in s) m text.old text.new }
 {
     let size = feeder.size();
     // 64 bytes are enough for every size.

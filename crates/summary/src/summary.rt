@@ -1,6 +1,5 @@
 // One message on its way to its four digests.
 ghost use Rattle.std.specs.Prelude.{◌≡◌, ℕ, ◌^◌, List, [], ◌++◌, length, nat_lt};
-ghost use Rattle.fields.specs.Texts.{written};
 ghost use Rattle.jh.specs.Jh.{jh, jh_over, MeansE8};
 
 use crate::feeders::Feeders;
@@ -47,8 +46,8 @@ impl<P: Permutation + Copy> Summary<P> {
     // A line for each digest, `SIZE<tab>hexadecimal digits<line feed>`, sizes rising; `refused<tab>2<line feed>` where the message has
     // passed 2^40 bytes. Over a permutation that means E8, the digests are JH's.
     pub fn report(self) -> Text<364>
-        ensures value { (p : P) (m : List ℕ) → Fed P.image p m self → written 364 result ≡ report_of (jh_over (P.image p)) m }
-        ensures jh { (p : P) (m : List ℕ) → Fed P.image p m self → MeansE8 (P.image p) → written 364 result ≡ report_of jh m }
+        ensures value { (p : P) (m : List ℕ) → Fed P.image p m self → result ≡ report_of (jh_over (P.image p)) m }
+        ensures jh { (p : P) (m : List ℕ) → Fed P.image p m self → MeansE8 (P.image p) → result ≡ report_of jh m }
     {
         let mut text = Text::new();
         match self.feeders {

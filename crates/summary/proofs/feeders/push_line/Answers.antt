@@ -1,6 +1,5 @@
 use Rattle.std.proofs.Common.{◌≡◌, ℕ, ◌/◌, List, [], ◌∷◌, ◌++◌, take, decimal, refl, ap, ◌∙◌, ap₂, arith}
 use Rattle.fields.specs.Hex.{hex_of}
-use Rattle.fields.specs.Texts.{written}
 use Rattle.fields.proofs.Texts.{then_part}
 use Rattle.jh.specs.Jh.{jh_over}
 use Rattle.jh.specs.Message.{bits_of}
@@ -17,11 +16,11 @@ returns g c = λ p m s h.
     let x : List ℕ = jh_over (g.P.Permutation.image p) n (bits_of m) in
     let z : c.size-size.result ≡ s = c.size-size.ensures ∙ h.size in
     let e : take c.bytes.result d ≡ x = ap (λ (j : ℕ). take j d) (c.bytes.ensures ∙ ap (λ (t : DigestSize). bits_in t / 8) z) ∙ f.1 in
-    let o : List ℕ = written 364 c.args.text.now in
-    let t1 : List ℕ = written 364 c.push_number.new.self in
-    let t2 : List ℕ = written 364 c.push.new.self in
-    let t3 : List ℕ = written 364 c.push_hex.new.self in
-    let t4 : List ℕ = written 364 c.push-2.new.self in
+    let o : List ℕ = c.args.text.now in
+    let t1 : List ℕ = c.push_number.new.self in
+    let t2 : List ℕ = c.push.new.self in
+    let t3 : List ℕ = c.push_hex.new.self in
+    let t4 : List ℕ = c.push-2.new.self in
     let y : List ℕ = hex_of (take c.bytes.result d) in
     let w : List ℕ = decimal c.from.result in
     let all : t4 ≡ take 364 (o ++ (w ++ (9 ∷ (y ++ (10 ∷ []))))) =

@@ -1,7 +1,6 @@
 use Rattle.std.proofs.Common.{◌≡◌, ℕ, List, ◌++◌, take, sym, ap, ◌∙◌, subst}
 use Rattle.std.proofs.lemmas.List.{take_all}
 use Rattle.std.proofs.lemmas.Option.{MatchOption-at_some, MatchOption-at_none}
-use Rattle.fields.specs.Texts.{written}
 use Rattle.jh.specs.Jh.{jh_over}
 use Rattle.summary.specs.Fed.{Four, Fed}
 use Rattle.summary.specs.Report.{refusal_line, lines, report_of}
@@ -11,7 +10,7 @@ use Rattle.summary.proofs.summary.Summary.report.Goals as goal
 pub returns-in-Some : goal.returns-in-Some
 returns-in-Some g c =
     let image = g.P.Permutation.image in
-    let v : (p : g.row.P.Denot) (m : List ℕ) → Fed image p m c.args.self → written 364 c.push_lines.new.text ≡ report_of (jh_over (image p)) m =
+    let v : (p : g.row.P.Denot) (m : List ℕ) → Fed image p m c.args.self → c.push_lines.new.text ≡ report_of (jh_over (image p)) m =
     λ p m h.
     let d = jh_over (image p) in
     let f = MatchOption-at_some _ _ c.in-Some.feeders c.in-Some.is h in
@@ -22,7 +21,7 @@ returns-in-Some g c =
 pub returns-in-None : goal.returns-in-None
 returns-in-None g c =
     let image = g.P.Permutation.image in
-    let v : (p : g.row.P.Denot) (m : List ℕ) → Fed image p m c.args.self → written 364 c.push.new.self ≡ report_of (jh_over (image p)) m =
+    let v : (p : g.row.P.Denot) (m : List ℕ) → Fed image p m c.args.self → c.push.new.self ≡ report_of (jh_over (image p)) m =
     λ p m h.
     c.push.ensures
     ∙ ap (λ (u : List ℕ). take 364 (u ++ refusal_line)) c.new-text.ensures
