@@ -41,6 +41,6 @@ fn digest_of_bytes<P: Permutation>(
     let bits = 8 * (message.len() as u64).min(1 << 40);
     match digest(press, size, message, bits, out) {
         Ok(()) => 0,
-        Err(refusal) => refusal.number() as u32,
+        Err(refusal) => u32::from(u8::from(refusal)),
     }
 }

@@ -25,7 +25,7 @@ fn told(res: Result<(), Refusal>) -> Answer
 {
     match res {
         Ok(()) => Answer::Done,
-        Err(refusal) => Answer::Refused(refusal.number()),
+        Err(refusal) => Answer::Refused(u8::from(refusal)),
     }
 }
 
@@ -60,7 +60,7 @@ fn ship<P: Press>(roll: &mut OpenRoll<P>, room: usize) -> Answer
     let mut block = [0; 64];
     match ship_into(roll, room, &mut block) {
         Ok(()) => Answer::Shipped(block),
-        Err(refusal) => Answer::Refused(refusal.number()),
+        Err(refusal) => Answer::Refused(u8::from(refusal)),
     }
 }
 
@@ -94,7 +94,7 @@ fn save_turn<P: Press>(roll: OpenRoll<P>, room: usize) -> (Roll<P>, Answer)
             let len = text.len;
             (Roll::Saved(roll, text), Answer::Wrote(len))
         }
-        Err(refusal) => (Roll::Open(roll), Answer::Refused(refusal.number())),
+        Err(refusal) => (Roll::Open(roll), Answer::Refused(u8::from(refusal))),
     }
 }
 

@@ -21,7 +21,7 @@ impl<P: Press> OpenRoll<P> {
     pub fn open(press: P, size: u32) -> Result<OpenRoll<P>, Declined<P>>
         ensures { Opens P.opens press size result }
     {
-        match DigestSize::of_bits(size) {
+        match DigestSize::try_from(size) {
             Ok(size) => {
                 let seal = press.opening(size);
                 let contents = RollContents::new(size);

@@ -38,7 +38,7 @@ fn digest_size(n: u64) -> Option<DigestSize>
     ensures { MatchOption result (is_size n ≡ false) (λ s. bits_in s ≡ n) }
 {
     match n {
-        0..=65_535 => DigestSize::of_bits(n as u32).ok(),
+        0..=65_535 => DigestSize::try_from(n as u32).ok(),
         _ => None,
     }
 }

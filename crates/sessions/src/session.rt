@@ -44,14 +44,14 @@ fn first<J: Press + Drop, D: Press + Drop>(
             Ok(roll) => (Session::Jh(roll), LineAnswer::Done),
             Err(Declined { press, refusal }) => (
                 Session::Unopened(press, drill),
-                LineAnswer::Refused(refusal.number()),
+                LineAnswer::Refused(u8::from(refusal)),
             ),
         },
         LineRequest::Open(PressName::Drill, bits) => match open(drill, *bits) {
             Ok(roll) => (Session::Drill(roll), LineAnswer::Done),
             Err(Declined { press, refusal }) => (
                 Session::Unopened(jh, press),
-                LineAnswer::Refused(refusal.number()),
+                LineAnswer::Refused(u8::from(refusal)),
             ),
         },
         _ => (Session::Unopened(jh, drill), LineAnswer::Refused(16)),
