@@ -1,5 +1,6 @@
 -- What an answer says, and the line that tells it.
 use Rattle.std.specs.Prelude.{◌≡◌, ℕ, ◌/◌, ◌<◌, List, [], ◌∷◌, ◌++◌, length, take, codes, decimal}
+use Rattle.refusals.specs.Refusals.{number}
 use Rattle.refusals.specs.Sizes.{bits_in}
 use Rattle.fields.specs.Hex.{hex_of}
 use Rattle.fields.specs.Texts.{written}
@@ -16,7 +17,7 @@ pub data Said : Type 0 where
 
 abbrev pub said : LineAnswer → Said
 said Done = done
-said (Refused n) = refused n
+said (Refused e) = refused (number e)
 said (Shipped m) = shipped m
 said (Closed s d) = closed (take (bits_in s / 8) d)
 said (Total cents count) = total cents count
