@@ -5,6 +5,7 @@ use Rattle.daybook.specs.Contents.{contents_length}
 use Rattle.daybook.specs.States.{State}
 use Rattle.daybook.specs.Daybook.{Call, Daybook, daybook, refusal}
 use Rattle.daybook.specs.Course.{Came, CameClosed}
+use Rattle.fields.specs.Texts.{written}
 use Rattle.text_laws.specs.Saved.{read_text}
 use Rattle.rolls.specs.Rolls.{state_of, closed_state_of}
 use Rattle.rolls.specs.Texts.{saved_of}
@@ -17,11 +18,11 @@ use Rattle.replay.specs.declared.roll.Roll.{Roll}
 use Rattle.replay.specs.declared.roll.Roll.TheVariants.{Open, Saved, Closed}
 
 abbrev pub text_in : SavedText → List ℕ
-text_in t = take t.len t.bytes
+text_in t = written 4700 t.text
 
 -- a text from which the roll at the state s can be resumed
 abbrev pub KeepsText : {P : Type 0} → State P → SavedText → Type 0
-KeepsText s t = (read_text (text_in t) ≡ Ok (saved_of s)) × (t.len ≡ contents_length s.contents)
+KeepsText s t = (read_text (text_in t) ≡ Ok (saved_of s)) × (length (text_in t) ≡ contents_length s.contents)
 
 -- a save of the roll at the state s that wrote n of the bytes
 abbrev pub SavesText : {P : Type 0} → State P → List ℕ → Result ℕ Refusal → Type 0

@@ -1,5 +1,6 @@
 // What is asked of a roll, what it answers, and what it tells at the end.
 use press::{Block, Chain};
+use refusals::refusal::Refusal;
 use roll_contents::contents::Total;
 
 // A call, with what it is given: the bytes of a passage, a serial, the length of a buffer.
@@ -21,8 +22,8 @@ pub enum Answer {
     // The state of the roll does not allow the call.
     Skipped,
     Done,
-    // The call is refused by that number.
-    Refused(u8),
+    // The call is refused.
+    Refused(Refusal),
     // The passage that was shipped.
     Shipped(Block),
     // The length of the saved text.
