@@ -10,6 +10,7 @@ use crate::answering::{digest, line_answer, total};
 use crate::state::SizedRoll;
 use answers::answer::LineAnswer;
 use press::Press;
+use refusals::refusal::Refusal;
 use replay::request::Request;
 use replay::turn::turn;
 use requests::request::LineRequest;
@@ -55,7 +56,7 @@ fn look<P: Press>(sized: &SizedRoll<P>, request: &LineRequest) -> LineAnswer
 {
     match request {
         LineRequest::Total => total(&sized.roll),
-        _ => LineAnswer::Refused(16),
+        _ => LineAnswer::Refused(Refusal::Request),
     }
 }
 
