@@ -1,10 +1,12 @@
 -- Encoding, decoding, and the fields of what was encoded.
-use Rattle.std.proofs.Common.{◌≡◌, ℕ, ◌+◌, ◌-◌, ◌*◌, ◌/◌, ◌%◌, ◌^◌, ◌<◌, ◌≤◌, true, eqb, List, [], ◌∷◌, ◌++◌, length, get_or, drop, replicate, sym, ap, ◌∙◌, ap₂, div-one, arith}
-use Rattle.std.proofs.lemmas.List.{append_assoc, append-nil, take_at, drop_at, drop-drop, drop-replicate, length-drop, get_or-drop, drop_more}
+use Rattle.std.proofs.Common.{◌≡◌, ℕ, ◌+◌, ◌-◌, ◌*◌, ◌/◌, ◌%◌, ◌^◌, ◌<◌, ◌≤◌, true, eqb, List, [], ◌∷◌, ◌++◌, length, get_or, take, drop, replicate, refl, sym, ap, ◌∙◌, ap₂, div-one, arith}
+use Rattle.std.proofs.lemmas.List.{append_assoc, append-nil, take_at, drop_at, drop-drop, drop-replicate, length-drop, get_or-take, get_or-drop, drop_more}
 use Rattle.std.proofs.lemmas.Bool.{and_parts, eqb-true}
+use Rattle.std.specs.Int.{w32, w64, from_be_bytes}
+use Rattle.std.proofs.lemmas.Nat.{from_be_bytes-to_be_bytes_4, from_be_bytes-to_be_bytes_8}
 use Rattle.byte_strings.specs.Bytes.{Bytes, big_endian}
 use Rattle.byte_strings.proofs.Strings.{everywhere, small_drop}
-use Rattle.passages.specs.Fields.{word, serial_of, time_of, charged_of, zeroed}
+use Rattle.passages.specs.Fields.{word, serial_of, time_of, class_of, version_of, charged_of, zeroed}
 use Rattle.passages.specs.Coding.{put_at, encoded, decoded}
 use Rattle.passages.specs.Laws.{Fits}
 use Rattle.passages.specs.declared.passage.Passage.{Passage}
@@ -25,6 +27,50 @@ pub eight : (n : ℕ)
 eight n =
     ap (λ (x : List ℕ). n / 72057594037927936 % 256 ∷ (n / 281474976710656 % 256 ∷ (n / 1099511627776 % 256 ∷ (n / 4294967296 % 256 ∷ x)))) (four n)
 
+read : (m : List ℕ) (n i k j : ℕ) → k < n → i + k ≡ j → get_or (take n (drop i m)) k 0 ≡ get_or m j 0
+read m n i k j h e = get_or-take n (drop i m) k 0 h ∙ get_or-drop i m k 0 ∙ ap (λ (x : ℕ). get_or m x 0) e
+
+-- the number in the four bytes from place i on
+pub word_read : (m : List ℕ) (i : ℕ) → from_be_bytes w32 (take 4 (drop i m)) ≡ word m i
+word_read m i =
+    let r = read m 4 i in
+    rw (r 0 i (omega arith) (omega arith), r 1 (i + 1) (omega arith) refl, r 2 (i + 2) (omega arith) refl, r 3 (i + 3) (omega arith) refl) (omega arith)
+
+pub time_read : (m : List ℕ) → from_be_bytes w64 (take 8 (drop 8 m)) ≡ time_of m
+time_read m =
+    let r = read m 8 8 in
+    rw (r 0 8 (omega arith) refl, r 1 9 (omega arith) refl, r 2 10 (omega arith) refl, r 3 11 (omega arith) refl)
+    (rw (r 4 12 (omega arith) refl, r 5 13 (omega arith) refl, r 6 14 (omega arith) refl, r 7 15 (omega arith) refl) (omega arith))
+
+pub class_read : (m : List ℕ) → get_or (take 4 (drop 16 m)) 0 0 ≡ class_of m
+class_read m = read m 4 16 0 16 (omega arith) refl
+
+pub version_read : (m : List ℕ) → get_or (take 4 (drop 16 m)) 1 0 ≡ version_of m
+version_read m = read m 4 16 1 17 (omega arith) refl
+
+-- the passage with these fields
+abbrev made : (gate serial time class version full discount charged : ℕ) (tag : List ℕ) → Passage
+made gate serial time class version full discount charged tag =
+    record {
+      gate = gate;
+      serial = serial;
+      time = time;
+      class = class;
+      version = version;
+      full_price = full;
+      discount = discount;
+      charged = charged;
+      tag = tag;
+    }
+
+-- a passage is its fields
+pub same_fields : (p q : Passage) → p.gate ≡ q.gate → p.serial ≡ q.serial → p.time ≡ q.time → p.class ≡ q.class → p.version ≡ q.version
+    → p.full_price ≡ q.full_price → p.discount ≡ q.discount → p.charged ≡ q.charged → p.tag ≡ q.tag → p ≡ q
+same_fields p q a b c d e f g h i =
+    let same : made p.gate p.serial p.time p.class p.version p.full_price p.discount p.charged p.tag
+    ≡ made q.gate q.serial q.time q.class q.version q.full_price q.discount q.charged q.tag = cc in
+    same
+
 -- four bytes spell a number, and the number gives them again
 digits : (a b c d : ℕ) → a < 256 → b < 256 → c < 256 → d < 256
     → big_endian 4 (a * 16777216 + b * 65536 + c * 256 + d) ≡ a ∷ (b ∷ (c ∷ (d ∷ [])))
@@ -36,18 +82,9 @@ digits a b c d ha hb hc hd =
     let ed : n / 1 % 256 ≡ d = omega arith in
     cc
 
--- a number from the remainders of a division by 256, again and again
-stacked : (n a b c r0 r1 r2 r3 : ℕ) → n ≡ a * 256 + r0 → a ≡ b * 256 + r1 → b ≡ c * 256 + r2 → c ≡ r3 → r3 * 16777216 + r2 * 65536 + r1 * 256 + r0 ≡ n
-stacked n a b c r0 r1 r2 r3 e0 e1 e2 e3 = omega arith
-
 -- a number below 2^32 is spelled by its four bytes
 pub spelled : (n : ℕ) → n < 2 ^ 32 → n / 16777216 % 256 * 16777216 + n / 65536 % 256 * 65536 + n / 256 % 256 * 256 + n / 1 % 256 ≡ n
-spelled n h =
-    let e0 : n ≡ n / 256 * 256 + n / 1 % 256 = omega arith in
-    let e1 : n / 256 ≡ n / 65536 * 256 + n / 256 % 256 = omega arith in
-    let e2 : n / 65536 ≡ n / 16777216 * 256 + n / 65536 % 256 = omega arith in
-    let e3 : n / 16777216 ≡ n / 16777216 % 256 = omega arith in
-    stacked n (n / 256) (n / 65536) (n / 16777216) (n / 1 % 256) (n / 256 % 256) (n / 65536 % 256) (n / 16777216 % 256) e0 e1 e2 e3
+spelled n h = rw (div-one n) (from_be_bytes-to_be_bytes_4 n h)
 
 -- eight bytes are four and four
 halves : (h l : ℕ) → l < 2 ^ 32 → big_endian 8 (h * 4294967296 + l) ≡ big_endian 4 h ++ big_endian 4 l
@@ -79,51 +116,21 @@ pub charged_encoded : (p : Passage) → p.charged < 2 ^ 32 → charged_of (encod
 unfolding encoded
 charged_encoded p h = spelled p.charged h
 
+-- four bytes give no more
+pub charged_most : (p : Passage) → charged_of (encoded p) ≤ 4294967295
+unfolding encoded
+charged_most p = omega arith
+
 time_spelled : (n : ℕ) → n < 2 ^ 64
     → (n / 72057594037927936 % 256 * 16777216 + n / 281474976710656 % 256 * 65536 + n / 1099511627776 % 256 * 256 + n / 4294967296 % 256) * 4294967296
     + (n / 16777216 % 256 * 16777216 + n / 65536 % 256 * 65536 + n / 256 % 256 * 256 + n / 1 % 256) ≡ n
-time_spelled n h =
-    let high = n / 4294967296 in
-    let low = n % 4294967296 in
-    let h1 : n / 72057594037927936 ≡ high / 16777216 = omega arith in
-    let h2 : n / 281474976710656 ≡ high / 65536 = omega arith in
-    let h3 : n / 1099511627776 ≡ high / 256 = omega arith in
-    let h4 : n / 4294967296 % 256 ≡ high / 1 % 256 = ap (λ (x : ℕ). x % 256) (sym (div-one high)) in
-    let l1 : n / 16777216 % 256 ≡ low / 16777216 % 256 = omega arith in
-    let l2 : n / 65536 % 256 ≡ low / 65536 % 256 = omega arith in
-    let l3 : n / 256 % 256 ≡ low / 256 % 256 = omega arith in
-    let l4 : n / 1 % 256 ≡ low / 1 % 256 = omega arith in
-    let a : n / 72057594037927936 % 256 * 16777216 + n / 281474976710656 % 256 * 65536 + n / 1099511627776 % 256 * 256 + n / 4294967296 % 256 ≡ high =
-    rw (h1, h2, h3, h4) (spelled high (omega arith)) in
-    let b : n / 16777216 % 256 * 16777216 + n / 65536 % 256 * 65536 + n / 256 % 256 * 256 + n / 1 % 256 ≡ low =
-    rw (l1, l2, l3, l4) (spelled low (omega arith)) in
-    ap₂ (λ (x y : ℕ). x * 4294967296 + y) a b ∙ (let e : high * 4294967296 + low ≡ n = omega arith in e)
-
--- the passage with these fields
-abbrev made : (gate serial time class version full discount charged : ℕ) (tag : List ℕ) → Passage
-made gate serial time class version full discount charged tag =
-    record {
-      gate = gate;
-      serial = serial;
-      time = time;
-      class = class;
-      version = version;
-      full_price = full;
-      discount = discount;
-      charged = charged;
-      tag = tag;
-    }
+time_spelled n h = rw (div-one n) (let e = from_be_bytes-to_be_bytes_8 n h in omega (arith, e))
 
 pub decoding : (p : Passage) → Fits p → decoded (encoded p) ≡ p
 unfolding encoded
 decoding p f =
-    let q = decoded (encoded p) in
-    ap (λ (x : ℕ). made x q.serial q.time p.class p.version q.full_price q.discount q.charged p.tag) (spelled p.gate f.gate)
-    ∙ ap (λ (x : ℕ). made p.gate x q.time p.class p.version q.full_price q.discount q.charged p.tag) (spelled p.serial f.serial)
-    ∙ ap (λ (x : ℕ). made p.gate p.serial x p.class p.version q.full_price q.discount q.charged p.tag) (time_spelled p.time f.time)
-    ∙ ap (λ (x : ℕ). made p.gate p.serial p.time p.class p.version x q.discount q.charged p.tag) (spelled p.full_price f.full_price)
-    ∙ ap (λ (x : ℕ). made p.gate p.serial p.time p.class p.version p.full_price x q.charged p.tag) (spelled p.discount f.discount)
-    ∙ ap (λ (x : ℕ). made p.gate p.serial p.time p.class p.version p.full_price p.discount x p.tag) (spelled p.charged f.charged)
+    same_fields _ p (spelled p.gate f.gate) (spelled p.serial f.serial) (time_spelled p.time f.time) refl refl
+    (spelled p.full_price f.full_price) (spelled p.discount f.discount) (spelled p.charged f.charged) refl
 
 -- the first four bytes of a string, by their number
 split : (xs : List ℕ) → 4 ≤ length xs → ((k : ℕ) → get_or xs k 0 < 256) → xs ≡ big_endian 4 (word xs 0) ++ drop 4 xs

@@ -10,6 +10,11 @@ use Rattle.passages.specs.declared.passage.Passage.{Passage}
 abbrev pub refused_after : (last : ℕ) (m : List ℕ) → ℕ
 refused_after last m = next_refusal last (serial_of m) (formed m) (priced m)
 
+-- p is the passage in the 64 bytes m; encoded, it gives them again where bytes 18 and 19 are zero
+pub record Reads (m : List ℕ) (p : Passage) : Type 0 where
+  pub fields : p ≡ decoded m
+  pub bytes : zeroed m ≡ true → encoded p ≡ m
+
 -- p is the passage in the 64 bytes m, and may stand after one with the serial `last`
 pub record Decodes (last : ℕ) (m : List ℕ) (p : Passage) : Type 0 where
   pub fields : p ≡ decoded m

@@ -1,5 +1,5 @@
 // One passage, as its fields; prices are in cents, the time in seconds.
-#[derive(Clone, Copy)]
+#[derive(Clone, Copy, PartialEq, Eq, Debug)]
 pub struct Passage {
     pub gate: u32,
     pub serial: u32,

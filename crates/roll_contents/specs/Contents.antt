@@ -1,8 +1,7 @@
 -- What the contents of a roll are to the daybook, and what the tests on them find.
-use Rattle.std.specs.Prelude.{◌≡◌, ℕ, ◌<◌, true, false, List, length, Some, None, Ok, Err, Option, Result, ◌==◌}
+use Rattle.std.specs.Prelude.{◌≡◌, ℕ, ◌<◌, true, List, length, Some, None, Ok, Err, Option, Result}
 use Rattle.std.specs.List.{remove}
 use Rattle.refusals.specs.declared.refusal.Refusal.{Refusal}
-use Rattle.refusals.specs.declared.refusal.Refusal.TheVariants.{Length}
 use Rattle.byte_strings.specs.Bytes.{Bytes}
 use Rattle.refusals.specs.Sizes.{bits_in}
 use Rattle.passages.specs.Coding.{encoded}
@@ -34,11 +33,6 @@ pub record Admits (k : Contents) (m : List ℕ) (p : Passage) : Type 0 where
   pub room : length k.window < 32
   pub standing : standing_count k < 1000000
   pub fits : fits_after (top_serial k) m ≡ true
-
--- the bytes m as a block
-abbrev pub Blocks : List ℕ → Result (List ℕ) Refusal → Type 0
-Blocks m (Ok b) = (b ≡ m) × Bytes 64 m
-Blocks m (Err e) = (e ≡ Length) × ((length m == 64) ≡ false)
 
 -- the bytes m join the contents k, as the passage p; or k stays
 abbrev pub Enters : (k : Contents) (m : List ℕ) (k' : Contents) → Result Passage Refusal → Type 0

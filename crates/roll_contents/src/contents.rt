@@ -28,7 +28,7 @@ pub struct RollContents {
 }
 
 // What all standing passages come to: their charged cents and their count.
-#[derive(Clone, Copy)]
+#[derive(Clone, Copy, PartialEq, Eq, Debug)]
 pub struct Total {
     pub cents: u64,
     pub count: u32,

@@ -5,30 +5,14 @@ ghost use Rattle.refusals.specs.Sizes.{bits_in};
 ghost use Rattle.passages.specs.Rows.{encoded_all};
 ghost use Rattle.daybook.specs.Contents.{nothing_yet, refused_pass, refused_cancel, standing_count};
 ghost use Rattle.window.specs.Listed.{Found};
-ghost use Rattle.roll_contents.specs.Contents.{contents_of, total_of, Admits, Blocks, Enters, less_one, Sends};
+ghost use Rattle.roll_contents.specs.Contents.{contents_of, total_of, Admits, Enters, less_one, Sends};
 
 use crate::contents::{RollContents, Total};
 use passages::passage::Passage;
-use press::Block;
 use refusals::refusal::Refusal;
 use refusals::size::DigestSize;
+use window::limits::MOST_STANDING;
 use window::window::Window;
-
-const MOST_WAITING: usize = 32;
-
-const MOST_STANDING: u32 = 1_000_000;
-
-// The bytes as a block; refuses them where they are not 64.
-fn block_of(bytes: &[u8]) -> Result<Block, Refusal>
-    ensures { Blocks bytes.now result }
-{
-    if bytes.len() != 64 {
-        return Err(Refusal::Length);
-    }
-    let mut block = [0; 64];
-    block.copy_from_slice(bytes);
-    Ok(block)
-}
 
 impl RollContents {
     // The contents of a new roll of that digest size.
@@ -71,16 +55,15 @@ impl RollContents {
         ensures answer { outcome result ≡ refused_pass (contents_of self.now) bytes.now }
         ensures taken { IfOk result (λ p. Admits (contents_of self.now) bytes.now p) }
     {
-        let block = block_of(bytes)?;
-        if self.window.len() >= MOST_WAITING {
+        let block = bytes.as_array().ok_or(Refusal::Length)?;
+        if self.window.is_full() {
             return Err(Refusal::Full);
         }
         if self.standing() >= MOST_STANDING {
             return Err(Refusal::Standing);
         }
         let last = self.window.last_serial(self.last_shipped);
-        let passage = Passage::decode_after(last, &block)?;
-        Ok(passage)
+        Passage::decode_after(last, block)
     }
 
     // The place in the window of the passage to cancel; refuses a serial that was shipped, and one that the window does not hold.
@@ -91,10 +74,7 @@ impl RollContents {
         if self.shipped > 0 && sought <= self.last_shipped {
             return Err(Refusal::Shipped);
         }
-        match self.window.find(sought) {
-            Some(i) => Ok(i),
-            None => Err(Refusal::Unknown),
-        }
+        self.window.find(sought).ok_or(Refusal::Unknown)
     }
 
     // Puts the passage in these bytes at the end of the window; refuses bytes that are not 64, a full window, 1,000,000 standing
@@ -122,7 +102,7 @@ impl RollContents {
         let passage = self.window.remove(0)?;
         self.shipped += 1;
         self.last_shipped = passage.serial;
-        self.cents_shipped += passage.charged as u64;
+        self.cents_shipped += u64::from(passage.charged);
         Some(passage)
     }
 

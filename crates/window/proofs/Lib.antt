@@ -1,3 +1,4 @@
 pub mod Shifts
 pub mod Held
 pub mod Changes
+pub mod Searches

@@ -1,55 +1,29 @@
--- A list whose elements from place i on have moved down by one.
-use Rattle.std.proofs.Common.{◌≡◌, ℕ, suc, ◌+◌, ◌<◌, ◌≤◌, List, map, length, get_or, take, drop, set, sym, ap, ◌∙◌, inl, inr, arith}
+-- A list in which the elements from place i on have moved down by one.
+use Rattle.std.proofs.Common.{◌≡◌, ℕ, suc, ◌+◌, ◌-◌, ◌<◌, ◌≤◌, List, [], ◌∷◌, ◌++◌, map, length, get_or, take, drop, sym, ap, ◌∙◌, arith}
+use borrow.Rule.Slice.PartMut.{put_mid, mid_of}
 use Rattle.std.specs.List.{remove}
-use Rattle.std.proofs.lemmas.List.{same_lists, length-take-le, get_or-take, get_or-set_same, get_or-set_other, get_or_default, take-map, drop-map, map-append, length-set}
-use Rattle.std.proofs.lemmas.List.Edits.{length-remove, get_or-remove_below, get_or-remove_above}
-use Rattle.std.proofs.lemmas.Bool.{cases_lt, cases_eq}
+use Rattle.std.proofs.lemmas.List.{length-append, length-take, length-drop, length-take-le, take-take, take_at, take-map, drop-map, drop-take, map-append}
+use Rattle.std.proofs.lemmas.List.Edits.{length-remove}
+use Rattle.std.proofs.lemmas.Slice.{put_mid-rotated, take-put_mid}
 
--- after the moves up to k: xs is what the places held, and ys what they hold
-pub record Moved {X : Type 0} (xs ys : List X) (i k : ℕ) : Type 0 where
-  pub before : (j : ℕ) (d : X) → j < i → get_or ys j d ≡ get_or xs j d
-  pub moved : (j : ℕ) (d : X) → i ≤ j → j < k → get_or ys j d ≡ get_or xs (j + 1) d
-  pub after : (j : ℕ) (d : X) → k ≤ j → get_or ys j d ≡ get_or xs j d
-  pub same_length : length ys ≡ length xs
-
-module _ {X : Type 0} (xs ys : List X) (i : ℕ) where
-  pub moved_none : xs ≡ ys → Moved xs ys i i
-  moved_none e =
-      record {
-        before = λ j d h. ap (λ l. get_or l j d) (sym e);
-        moved = λ j d l h. absurd (omega arith);
-        after = λ j d h. ap (λ l. get_or l j d) (sym e);
-        same_length = ap length (sym e);
-      }
-
-  pub moved_more : (k : ℕ) (e : X) → i ≤ k → k + 1 < length ys → Moved xs ys i k → Moved xs (set ys k (get_or ys (k + 1) e)) i (k + 1)
-  moved_more k e le lt m =
-      let y = get_or ys (k + 1) e in
-      record {
-        before = λ j d h. get_or-set_other ys k j y d (omega arith) ∙ m.before j d h;
-        moved = λ j d l h.
-            elim (cases_eq j k) [
-              | inl q ↦
-                  ap (λ n. get_or (set ys k y) n d) q ∙ get_or-set_same ys k y d (omega arith)
-                  ∙ m.after (k + 1) e (omega arith) ∙ get_or_default xs (k + 1) e d (omega (arith, m.same_length)) ∙ ap (λ n. get_or xs (n + 1) d) (sym q)
-              | inr q ↦ get_or-set_other ys k j y d q ∙ m.moved j d l (omega arith)
-            ];
-        after = λ j d h. get_or-set_other ys k j y d (omega arith) ∙ m.after j d (omega arith);
-        same_length = length-set ys k y ∙ m.same_length;
-      }
-
-  pub moved_all : (last count : ℕ) → last + 1 ≡ count → i < count → count ≤ length xs → Moved xs ys i last → take last ys ≡ remove (take count xs) i
-  moved_all last count e lt le m =
-      let lx : length (take count xs) ≡ count = length-take-le count xs le in
-      let ly : length (take last ys) ≡ last = length-take-le last ys (omega (arith, m.same_length)) in
-      let lr = length-remove (take count xs) i (omega arith) in
-      same_lists (take last ys) (remove (take count xs) i) (omega arith)
-      (λ k d h.
-      get_or-take last ys k d (omega arith)
-      ∙ elim (cases_lt k i) [
-        | inl l ↦ m.before k d l ∙ sym (get_or-remove_below (take count xs) i d k l (omega arith) ∙ get_or-take count xs k d (omega arith))
-        | inr l ↦ m.moved k d l (omega arith) ∙ sym (get_or-remove_above (take count xs) i d k l (omega arith) ∙ get_or-take count xs (k + 1) d (omega arith))
-      ])
+module _ {X : Type 0} (xs ys : List X) (i n : ℕ) (d : X) where
+  -- the part from place i to place n was rotated by one, and the last place of it is let go
+  pub rotated : i < n → n ≤ length xs → ys ≡ drop 1 (mid_of i (n - i) xs) ++ take 1 (mid_of i (n - i) xs) → take (n - 1) (put_mid i (n - i) xs ys) ≡ remove (take n xs) i
+  rotated l le e =
+      let held = take n xs in
+      let k = n - i in
+      let ends : n ≡ i + k = omega arith in
+      let part : drop i held ≡ mid_of i k xs = ap (λ m. drop i (take m xs)) ends ∙ drop-take i k xs in
+      let same : mid_of i k held ≡ mid_of i k xs = ap (take k) part ∙ take-take k k (drop i xs) (omega arith) in
+      let long : length held ≡ n = length-take-le n xs le in
+      let short = length-remove held i (omega arith) in
+      let y = get_or held i d in
+      let whole : put_mid i k held ys ≡ remove held i ++ y ∷ [] = put_mid-rotated i k held ys d (omega arith) (omega arith) (e ∙ ap (λ m. drop 1 m ++ take 1 m) (sym same)) in
+      let len : length ys ≡ k = ap length e ∙ simp (length-append, length-drop, length-take) (omega arith) in
+      sym (take-take (n - 1) n (put_mid i k xs ys) (omega arith))
+      ∙ ap (take (n - 1)) (take-put_mid i k xs ys n (omega arith) (omega arith) ∙ ap (λ m. m ++ ys) (sym (take-take i n xs (omega arith))) ∙ sym (take-put_mid i k held ys n (omega arith) (omega arith)) ∙ ap (take n) whole)
+      ∙ take-take (n - 1) n (remove held i ++ y ∷ []) (omega arith)
+      ∙ take_at (remove held i) (y ∷ []) (n - 1) (omega arith)
 
 pub map_removed : {X Y : Type 0} (f : X → Y) (xs : List X) (i : ℕ) → map f (remove xs i) ≡ remove (map f xs) i
 map_removed f xs i = map-append f (take i xs) (drop (suc i) xs) ∙ (let a = take-map f i xs in let b = drop-map f (suc i) xs in cc)

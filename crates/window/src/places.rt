@@ -1,10 +1,11 @@
 // The places of a window.
-ghost use Rattle.std.specs.Prelude.{◌≡◌, ◌*◌, ◌≤◌, [], length, drop, sum_by};
+ghost use Rattle.std.specs.Prelude.{◌≡◌, ◌*◌, ◌≤◌, [], length, drop, sum_by, ◌==◌};
 ghost use Rattle.passages.specs.Coding.{encoded};
 ghost use Rattle.passages.specs.Fields.{serial_of, charged_of};
 ghost use Rattle.passages.specs.Rows.{encoded_all, last_serial};
 ghost use Rattle.window.specs.Listed.{listed, Pushes, Removes, Finds};
 
+use crate::limits::MOST_WAITING;
 use crate::window::Window;
 use passages::passage::Passage;
 use refusals::refusal::Refusal;
@@ -29,13 +30,20 @@ fn serial(passage: &Passage) -> u32
     passage.serial
 }
 
+// The charged cents, as the bytes of the passage have them.
+fn charged(passage: &Passage) -> u64
+    ensures { result ≡ charged_of (encoded passage.now) }
+{
+    u64::from(passage.charged)
+}
+
 impl Window {
     // A window without a passage.
     pub fn new() -> Self
         ensures { listed result ≡ [] }
     {
         Window {
-            places: [BLANK; 32],
+            places: [BLANK; MOST_WAITING],
             count: 0,
         }
     }
@@ -44,7 +52,7 @@ impl Window {
     pub fn as_slice(&self) -> &[Passage]
         ensures { encoded_all result.now ≡ listed self.now }
     {
-        &self.places[0..self.count]
+        &self.places[..self.count]
     }
 
     // The passages from place `i` on, oldest first.
@@ -60,14 +68,21 @@ impl Window {
         ensures value { result ≡ length (listed self.now) }
         ensures bound { result ≤ 32 }
     {
-        self.as_slice().len()
+        self.count
+    }
+
+    // No place is free.
+    pub fn is_full(&self) -> bool
+        ensures { result ≡ (length (listed self.now) == 32) }
+    {
+        self.count == MOST_WAITING
     }
 
     // Puts a passage into the first free place; refuses it where all 32 are taken.
     pub fn push(&mut self, passage: Passage) -> Result<(), Refusal>
         ensures { Pushes (listed self.old) (encoded passage) (listed self.new) result }
     {
-        if self.count >= 32 {
+        if self.is_full() {
             return Err(Refusal::Full);
         }
         self.places[self.count] = passage;
@@ -79,15 +94,9 @@ impl Window {
     pub fn remove(&mut self, i: usize) -> Option<Passage>
         ensures { Removes (listed self.old) i (listed self.new) result }
     {
-        if i >= self.count {
-            return None;
-        }
-        let taken = self.places[i];
-        let last = self.count - 1;
-        for k in i..last {
-            self.places[k] = self.places[k + 1];
-        }
-        self.count = last;
+        let taken = *self.as_slice().get(i)?;
+        self.places[i..self.count].rotate_left(1);
+        self.count -= 1;
         Some(taken)
     }
 
@@ -95,13 +104,9 @@ impl Window {
     pub fn find(&self, sought: u32) -> Option<usize>
         ensures { Finds sought (listed self.now) result }
     {
-        for i in 0..self.count {
-            let passage = self.places[i];
-            if passage.serial == sought {
-                return Some(i);
-            }
-        }
-        None
+        self.as_slice()
+            .iter()
+            .position(|passage| serial(passage) == sought)
     }
 
     // The charged cents of all its passages.
@@ -109,20 +114,13 @@ impl Window {
         ensures value { result ≡ sum_by charged_of (listed self.now) }
         ensures bound { result ≤ 32 * 4294967295 }
     {
-        let mut sum: u64 = 0;
-        for i in 0..self.count {
-            sum += self.places[i].charged as u64;
-        }
-        sum
+        self.as_slice().iter().map(charged).sum()
     }
 
     // The serial of the newest passage, or `other` where there is none.
     pub fn last_serial(&self, other: u32) -> u32
         ensures { result ≡ last_serial other (listed self.now) }
     {
-        if self.count == 0 {
-            return other;
-        }
-        serial(&self.places[self.count - 1])
+        self.as_slice().last().map_or(other, serial)
     }
 }

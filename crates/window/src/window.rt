@@ -1,11 +1,12 @@
 // Up to 32 passages, oldest first, in the first places.
 ghost use Rattle.std.specs.Prelude.{◌≡◌, ◌≤◌, length};
 
+use crate::limits::MOST_WAITING;
 use passages::passage::Passage;
 
 #[derive(Clone, Copy)]
 pub struct Window {
-    pub(crate) places: [Passage; 32],
+    pub(crate) places: [Passage; MOST_WAITING],
     pub(crate) count: usize,
     ghost long: { length places ≡ 32 },
     ghost few: { count ≤ 32 },

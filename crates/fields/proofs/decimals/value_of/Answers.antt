@@ -1,4 +1,4 @@
-use Rattle.std.proofs.Common.{◌≡◌, ◌+◌, ◌-◌, ◌*◌, ◌^◌, ◌≤◌, ◌&&◌, get_or, drop, sym, ◌∙◌, pow-suc, add-one, arith}
+use Rattle.std.proofs.Common.{◌≡◌, ◌+◌, ◌-◌, ◌*◌, ◌^◌, ◌≤◌, ◌&&◌, get_or, drop, sym, ap, ◌∙◌, pow-suc, add-one, arith}
 use native.Mathlib.Nat.{pow-le-pow_right}
 use Rattle.std.specs.Char.{is_ascii_digit}
 use Rattle.std.specs.Str.{all_ascii_digits}
@@ -11,8 +11,8 @@ overflow_mul-value c =
     let p = pow-le-pow_right {n = 10} (omega arith) {i = c.loop-b.b-index} {j = 15} (omega arith) in
     omega (arith, p)
 
-pub overflow_sub-value : goal.overflow_sub-value
-overflow_sub-value c =
+pub overflow_sub-b : goal.overflow_sub-b
+overflow_sub-b c =
     let e : all_ascii_digits (drop c.loop-b.b-index c.args.field.now) ≡ (is_ascii_digit (get_or c.args.field.now c.loop-b.b-index 0) && all_ascii_digits (drop (c.loop-b.b-index + 1) c.args.field.now)) = at_drop_more all_ascii_digits c.args.field.now c.loop-b.b-index 0 c.loop-b-test.true in
     grind (arith, e)
 
@@ -27,7 +27,7 @@ loop-b-preserved c =
     let r : read_on c.loop-b.value (drop c.loop-b.b-index c.args.field.now) ≡ read_on (10 * c.loop-b.value + (get_or c.args.field.now c.loop-b.b-index 0 - 48)) (drop (c.loop-b.b-index + 1) c.args.field.now) = at_drop_more (read_on c.loop-b.value) c.args.field.now c.loop-b.b-index 0 c.loop-b-test.true in
     let d : get_or c.args.field.now c.loop-b.b-index 0 ≤ 57 = grind (arith, e) in
     let q : 10 ^ (c.loop-b.b-index + 1) ≡ 10 ^ c.loop-b.b-index * 10 = rw add-one (pow-suc 10 c.loop-b.b-index) in
-    (sym r ∙ c.loop-b.invariant.0, grind (arith, e), omega (arith, q, d))
+    (ap (λ d. read_on (10 * c.loop-b.value + d) (drop (c.loop-b.b-index + 1) c.args.field.now)) c.from.ensures ∙ sym r ∙ c.loop-b.invariant.0, grind (arith, e), omega (arith, q, d))
 
 pub returns : goal.returns
 returns c = let e = at_drop_all (read_on c.loop-b.value) c.args.field.now c.loop-b.b-index c.loop-b-test.false in grind (arith, e)

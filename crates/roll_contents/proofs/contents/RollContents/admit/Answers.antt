@@ -1,26 +1,28 @@
-use Rattle.std.proofs.Common.{◌≡◌, ℕ, ◌<◌, List, length, sym, ◌∙◌, ap₂, arith}
-use Rattle.std.proofs.lemmas.Result.{err_from_is_err_and}
-use Rattle.std.proofs.lemmas.Bool.Decides.{nat_tests}
-use Rattle.passages.specs.Laws.{refused_after}
-use Rattle.daybook.specs.Contents.{Contents, refused_pass, standing_count, top_serial}
-use Rattle.roll_contents.specs.Contents.{contents_of}
+use Rattle.std.proofs.Common.{◌≡◌, length, ap₂, sym, ◌∙◌, rules, arith}
+use Rattle.std.proofs.lemmas.Result.{IfOk-weaker}
+use Rattle.std.proofs.lemmas.Bool.{eqb-false}
+use Rattle.passages.specs.Fields.{fits_after}
+use Rattle.passages.specs.Laws.{Decodes}
+use Rattle.window.proofs.Held.{length_listed}
+use Rattle.roll_contents.specs.Contents.{contents_of, Admits}
 use Rattle.roll_contents.proofs.contents.RollContents.admit.Goals as goal
 
--- past the first three tests
-admitted : (k : Contents) (m : List ℕ) → length m ≡ 64 → length k.window < 32 → standing_count k < 1000000 → refused_pass k m ≡ refused_after (top_serial k) m
-admitted k m e w s = grind (arith, nat_tests)
-
-pub returns-in_err-passage : goal.returns-in_err-passage
-returns-in_err-passage c =
-    let p = err_from_is_err_and c.from_residual-in_err-passage.result c.from_residual-in_err-passage.ensures.1 in
+pub returns-clause-taken : goal.returns-clause-taken
+returns-clause-taken c =
     let k = contents_of c.args.self.now in
     let m = c.args.bytes.now in
-    let b = c.in_ok-block.ensures in
-    let a = c.in_err-passage.ensures.answer in
-    let l = c.last_serial-last.ensures in
-    let wide = b.1.len in
-    rw (p.1, p.2)
-    (record {
-      answer = a ∙ ap₂ refused_after l b.0 ∙ sym (admitted k m wide (omega arith) (omega arith));
-      taken = tt;
+    let same : c.in_ok-block.block.now ≡ m = search rules in
+    let long : length m ≡ 64 = search rules in
+    let few = c.args.self.now.window.few in
+    let held = length_listed c.args.self.now.window in
+    let last = c.last_serial-last.ensures in
+    IfOk-weaker c.decode_after.result (Decodes c.last_serial-last.result c.in_ok-block.block.now) (Admits k m)
+    (λ p d.
+    record {
+      bytes = d.bytes ∙ same;
+      wide = search rules;
+      room = omega (arith, few, eqb-false (length k.window) 32 (sym c.is_full.ensures ∙ c.if-is_full.false));
+      standing = omega arith;
+      fits = ap₂ fits_after (sym last) (sym same) ∙ d.fits;
     })
+    c.decode_after.ensures.value

@@ -3,8 +3,6 @@ use Rattle.std.specs.List.{remove}
 use Rattle.passages.specs.Rows.{in_order}
 use Rattle.passages.proofs.Order.{in_order_removed}
 use Rattle.window.specs.Listed.{listed}
-use Rattle.daybook.specs.Contents.{with_window}
-use Rattle.roll_contents.specs.Contents.{contents_of}
 use Rattle.window.proofs.Changes.{taken_out, removed_few}
 use Rattle.roll_contents.proofs.contents.RollContents.take_out.Goals as goal
 
@@ -19,8 +17,3 @@ invariant_of-self c =
     let order : in_order k.last_shipped (listed c.remove.new.self) ≡ true =
     ap (in_order k.last_shipped) new ∙ in_order_removed k.last_shipped ms c.args.i k.order in
     record { standing = omega arith; order = order; serials = k.serials; cents = k.cents; fresh = k.fresh; high = k.high }
-
-pub returns : goal.returns
-returns c =
-    let k = c.args.self.now in
-    ap (with_window (contents_of k)) (taken_out (listed k.window) c.args.i (listed c.remove.new.self) c.remove.result c.remove.ensures)

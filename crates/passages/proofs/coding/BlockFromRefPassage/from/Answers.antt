@@ -2,7 +2,7 @@ use Rattle.std.proofs.Common.{◌≡◌, ℕ, ◌-◌, List, [], ◌∷◌, ◌+
 use Rattle.byte_strings.specs.Bytes.{big_endian}
 use Rattle.passages.specs.Coding.{put_at}
 use Rattle.passages.proofs.Encodings.{put_next, four, eight, joined_parts}
-use Rattle.passages.proofs.passage.Passage.encode.Goals as goal
+use Rattle.passages.proofs.coding.BlockFromRefPassage.from.Goals as goal
 
 -- a block of zeros behind the first parts, and one part more
 more : (old new xs part part' : List ℕ) (n i k : ℕ) → old ≡ xs ++ replicate n 0 → length xs ≡ i → new ≡ put_at i part old → part ≡ part' → length part' ≡ k
@@ -12,7 +12,7 @@ more old new xs part part' n i k e l f p q =
 
 pub returns : goal.returns
 returns c =
-    let p = c.args.self.now in
+    let p = c.args.passage.now in
     let x1 = big_endian 4 p.gate in
     let x2 = x1 ++ big_endian 4 p.serial in
     let x3 = x2 ++ big_endian 8 p.time in
