@@ -1,7 +1,6 @@
 // The lines that tell the answers.
 ghost use Rattle.std.specs.Prelude.{◌≡◌};
-ghost use Rattle.fields.specs.Texts.{written};
-ghost use Rattle.answers.specs.Said.{said, line_of, capacity, Tells};
+ghost use Rattle.answers.specs.Said.{said, line_of, Tells};
 
 use crate::answer::LineAnswer;
 use fields::text::Text;
@@ -41,7 +40,7 @@ impl LineAnswer {
 
     // The line that tells the answer, with its line feed.
     pub fn line(&self) -> Text<MOST>
-        ensures { written capacity result ≡ line_of (said self.now) }
+        ensures { result ≡ line_of (said self.now) }
     {
         let mut text = self.fields();
         text.push(b"\n");

@@ -4,7 +4,6 @@ use Rattle.std.proofs.lemmas.List.{length-take-le}
 use Rattle.refusals.specs.Refusals.{number}
 use Rattle.refusals.specs.Sizes.{bits_in}
 use Rattle.fields.specs.Hex.{hex_of}
-use Rattle.fields.specs.Texts.{written}
 use Rattle.fields.proofs.Texts.{then_part, length_hex}
 use Rattle.answers.specs.Said.{capacity}
 use Rattle.answers.specs.declared.answer.LineAnswer.TheVariants.{Refused, Shipped, Closed, Total}
@@ -19,7 +18,7 @@ returns-in-Refused c =
     let said = c.from.ensures in
     let few = length-decimal-le 20 (number e) (omega arith) (omega (arith, said)) (omega (arith, said)) in
     tells c.args.self.now (Refused e) (codes "refused" ++ (9 ∷ [])) (decimal (number e)) c.new-text.result c.push-in-Refused.new.self c.push_number.new.self c.in-Refused.is refl (omega (arith, few))
-    c.new-text.ensures c.push-in-Refused.ensures (c.push_number.ensures ∙ ap (λ k. take capacity (written capacity c.push-in-Refused.new.self ++ decimal k)) n)
+    c.new-text.ensures c.push-in-Refused.ensures (c.push_number.ensures ∙ ap (λ k. take capacity (c.push-in-Refused.new.self ++ decimal k)) n)
 
 pub returns-in-Shipped : goal.returns-in-Shipped
 returns-in-Shipped c =
@@ -38,7 +37,7 @@ returns-in-Closed c =
     let l = length_hex (take (bits_in c.in-Closed.size / 8) c.in-Closed.digest) in
     let m = length-take-le (bits_in c.in-Closed.size / 8) c.in-Closed.digest (omega (arith, short)) in
     tells c.args.self.now (Closed s d) (codes "closed" ++ (9 ∷ [])) (hex_of (take n d)) c.new-text.result c.push-in-Closed.new.self c.push_hex-in-Closed.new.self c.in-Closed.is refl (omega (arith, l, m, short))
-    c.new-text.ensures c.push-in-Closed.ensures (c.push_hex-in-Closed.ensures ∙ ap (λ k. take capacity (written capacity c.push-in-Closed.new.self ++ hex_of (take k d))) e)
+    c.new-text.ensures c.push-in-Closed.ensures (c.push_hex-in-Closed.ensures ∙ ap (λ k. take capacity (c.push-in-Closed.new.self ++ hex_of (take k d))) e)
 
 pub returns-in-Total : goal.returns-in-Total
 returns-in-Total c =
@@ -47,10 +46,10 @@ returns-in-Total c =
     let p = length-decimal-le 20 c.in-Total.cents (omega arith) (omega arith) (omega arith) in
     let q = length-decimal-le 20 c.in-Total.count (omega arith) (omega arith) (omega arith) in
     let l = length-append (decimal c.in-Total.cents) (9 ∷ decimal c.in-Total.count) in
-    let w1 = written capacity c.push-in-Total.new.self in
-    let w2 = written capacity c.push_number-in-Total.new.self in
-    let w3 = written capacity c.push-in-Total-2.new.self in
-    let w4 = written capacity c.push_number-in-Total-2.new.self in
+    let w1 = c.push-in-Total.new.self in
+    let w2 = c.push_number-in-Total.new.self in
+    let w3 = c.push-in-Total-2.new.self in
+    let w4 = c.push_number-in-Total-2.new.self in
     let last = c.push_number-in-Total-2.ensures ∙ ap (λ n. take capacity (w3 ++ decimal n)) c.from-in-Total.ensures in
     tells c.args.self.now (Total c.in-Total.cents c.in-Total.count) (codes "total" ++ (9 ∷ [])) (cents ++ (9 ∷ count)) c.new-text.result c.push-in-Total.new.self c.push_number-in-Total-2.new.self c.in-Total.is refl
     (omega (arith, p, q, l)) c.new-text.ensures c.push-in-Total.ensures
