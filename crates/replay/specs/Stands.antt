@@ -5,7 +5,6 @@ use Rattle.daybook.specs.Contents.{contents_length}
 use Rattle.daybook.specs.States.{State}
 use Rattle.daybook.specs.Daybook.{Call, Daybook, daybook, refusal}
 use Rattle.daybook.specs.Course.{Came, CameClosed}
-use Rattle.fields.specs.Texts.{written}
 use Rattle.text_laws.specs.Saved.{read_text}
 use Rattle.rolls.specs.Rolls.{state_of, closed_state_of}
 use Rattle.rolls.specs.Texts.{saved_of}
@@ -18,7 +17,7 @@ use Rattle.replay.specs.declared.roll.Roll.{Roll}
 use Rattle.replay.specs.declared.roll.Roll.TheVariants.{Open, Saved, Closed}
 
 abbrev pub text_in : SavedText → List ℕ
-text_in t = written 4700 t.text
+text_in t = t.text
 
 -- a text from which the roll at the state s can be resumed
 abbrev pub KeepsText : {P : Type 0} → State P → SavedText → Type 0
@@ -36,6 +35,8 @@ Answers {P = P} opens steps s c accepted a s' =
     (p : P) (size : ℕ) (calls : List Call) → Came opens steps p s size calls
     → (a ≡ answered (refusal (daybook size calls) c) (accepted (daybook size calls))) × Came opens steps p s' size (calls ++ c ∷ [])
 
+-- Kept: the three functions of a press stand beside one another; a clause would have to make a record of them first,
+-- `functions P.opens P.steps P.ends`, which is longer than the three names.
 module _ {P : Type 0} (opens : P → ℕ → List ℕ) (steps : P → List ℕ → List ℕ → List ℕ) (ends : P → ℕ → List ℕ) (p : P) (size : ℕ) where
   -- the roll stands in that phase, and came by these calls
   abbrev pub Stands : Roll P → Phase → List Call → Type 0

@@ -4,7 +4,7 @@ use refusals::refusal::Refusal;
 use roll_contents::contents::Total;
 
 // A call, with what it is given: the bytes of a passage, a serial, the length of a buffer.
-#[derive(Clone, Copy)]
+#[derive(Clone, Copy, PartialEq, Eq, Debug)]
 pub enum Request<'a> {
     Close,
     Reopen,
@@ -17,7 +17,7 @@ pub enum Request<'a> {
 }
 
 // What a request is answered.
-#[derive(Clone, Copy)]
+#[derive(Clone, Copy, PartialEq, Eq, Debug)]
 pub enum Answer {
     // The state of the roll does not allow the call.
     Skipped,
@@ -31,7 +31,7 @@ pub enum Answer {
 }
 
 // What a roll tells at the end.
-#[derive(Clone, Copy)]
+#[derive(Clone, Copy, PartialEq, Eq, Debug)]
 pub enum Reading {
     // An open roll: its total and its seal.
     Sealed(Total, Chain),

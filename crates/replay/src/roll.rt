@@ -1,6 +1,5 @@
 // A roll between two requests.
 ghost use Rattle.std.specs.Prelude.{◌≡◌, true, is_ok};
-ghost use Rattle.fields.specs.Texts.{written};
 ghost use Rattle.text_laws.specs.Saved.{read_text};
 
 use fields::text::Text;
@@ -10,7 +9,7 @@ use rolls::state::{ClosedRoll, OpenRoll};
 #[derive(Clone, Copy)]
 pub struct SavedText {
     pub(crate) text: Text<4700>,
-    ghost valid: { is_ok (read_text (written 4700 text)) ≡ true },
+    ghost valid: { is_ok (read_text text) ≡ true },
 }
 
 impl SavedText {

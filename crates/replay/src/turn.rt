@@ -156,6 +156,8 @@ fn turn_open<P: Press>(mut roll: OpenRoll<P>, request: &Request) -> (Roll<P>, An
 }
 
 // A request to an open roll, right after a save.
+// Kept: that the text is this roll's is a premise here and no invariant of a struct of the two. Such a type would be narrower:
+// `turn` takes any open roll with any saved text.
 fn turn_saved<P: Press + Drop>(
     roll: OpenRoll<P>,
     text: SavedText,
@@ -180,7 +182,8 @@ fn turn_closed<P: Press>(roll: ClosedRoll<P>, request: &Request) -> (Roll<P>, An
     }
 }
 
-// A request to a roll.
+// A request to a roll: the roll after it, and the answer.
+// Kept: a pair, which every caller takes apart at once; a struct would only give its parts their names again.
 pub fn turn<P: Press + Drop>(roll: Roll<P>, request: &Request) -> (Roll<P>, Answer)
     ensures { TurnsAny P.opens P.steps P.ends roll request.now result.0 result.1 }
 {

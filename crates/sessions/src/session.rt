@@ -80,6 +80,8 @@ fn request<J: Press + Drop, D: Press + Drop>(
 ) -> (Session<J, D>, LineAnswer)
     ensures { Answers (functions J.opens J.steps J.ends) (functions D.opens D.steps D.ends) session request.now result.0 result.1 }
 {
+    // Kept: a function for both arms would take the variant, whose type names the other press too; the borrow checker has no
+    // proof of such a call.
     match session {
         Session::Unopened(jh, drill) => first(jh, drill, request),
         Session::Jh(roll) => {
