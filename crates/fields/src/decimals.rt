@@ -1,7 +1,7 @@
 // Decimal numbers, read.
-ghost use Rattle.std.specs.Prelude.{◌≡◌, ◌≤◌, true, length};
+ghost use Rattle.std.specs.Prelude.{◌≡◌};
 ghost use Rattle.std.specs.Str.{all_ascii_digits};
-ghost use Rattle.fields.specs.Decimals.{is_decimal, read_on, number_of};
+ghost use Rattle.fields.specs.Decimals.{is_decimal, number_of};
 
 fn all_digits(field: &[u8]) -> bool
     ensures { result ≡ all_ascii_digits field.now }
@@ -15,22 +15,13 @@ fn is_decimal(field: &[u8]) -> bool
     matches!(field.len(), 1..=16) && (field[0] != b'0' || field.len() == 1) && all_digits(field)
 }
 
-// The number that at most 16 digits write.
-// Kept: a fold's closure would need a clause that says what this loop's invariant says, that ten times the value fits.
-fn value_of(field: &[u8]) -> u64
-    requires { (length field.now ≤ 16) × (all_ascii_digits field.now ≡ true) }
-    ensures { result ≡ read_on 0 field.now }
-{
-    let mut value = 0;
-    for b in field {
-        value = 10 * value + u64::from(b - b'0');
-    }
-    value
-}
-
 // The number of a field of 1 to 16 digits with no leading zero but in 0; none for any other field.
 pub fn number(field: &[u8]) -> Option<u64>
     ensures { result ≡ number_of field.now }
 {
-    is_decimal(field).then(|| value_of(field))
+    if is_decimal(field) {
+        Some(str::from_utf8(field).unwrap().parse().unwrap())
+    } else {
+        None
+    }
 }

@@ -40,6 +40,7 @@ fn is_hex(field: &[u8], n: usize) -> bool
 }
 
 // The bytes that pairs of digits stand for.
+// Kept: no plainer with the kit's `hex`, which takes capitals too: the digits would still be tested here first.
 fn unhex<const N: usize>(field: &[u8]) -> [u8; N]
     requires { (length field.now ≡ 2 * N) × (all_hex field.now ≡ true) }
     ensures { result ≡ bytes_of field.now }

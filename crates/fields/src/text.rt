@@ -7,6 +7,7 @@ use itoa::Buffer;
 use std::marker::Model;
 
 // A text of at most N bytes, the first `len` of `bytes`. The others are zeros.
+// Kept: no heap may be used here, callers copy a text, and the kit's `ArrayVec` is not Copy.
 #[derive(Clone, Copy)]
 pub struct Text<const N: usize> {
     bytes: [u8; N],

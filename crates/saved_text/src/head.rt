@@ -20,7 +20,7 @@ const MOST_WAITING: u64 = 32;
 const MOST_STANDING: u64 = 1_000_000;
 
 // The highest serial, and the highest price of a passage.
-const HIGHEST: u64 = 4_294_967_295;
+const HIGHEST: u64 = u32::MAX as u64;
 
 // The numbers of line 1, as they are read.
 #[derive(Clone, Copy)]

@@ -67,7 +67,7 @@ fn parse(text: &[u8]) -> Result<Snapshot, TextFault>
 
 // What a text says. Refuses every text that is not the text of a valid roll, at its first wrong line: as malformed where that
 // line is missing, left over, without its line feed or not of its form, else for its values.
-// Kept: `parse` stands apart, so that the law is proved of its answer once, and not at each of its five returns.
+// Kept: no plainer in one with `parse`, since the law would be proved at each of its returns, and here it is once.
 pub fn read(text: &[u8]) -> Result<Snapshot, TextFault>
     ensures value { Reads text.now result }
     ensures law { Lawful text.now result }
