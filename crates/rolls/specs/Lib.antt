@@ -1,3 +1,4 @@
 pub mod Buffers
+pub mod Seals
 pub mod Rolls
 pub mod Texts

@@ -9,10 +9,10 @@ use Rattle.rolls.specs.declared.state.OpenRoll.{OpenRoll}
 use Rattle.rolls.specs.declared.state.ClosedRoll.{ClosedRoll}
 
 abbrev pub state_of : {P : Type 0} → OpenRoll P → State P
-state_of o = record { press = o.press; seal = o.seal; contents = contents_of o.contents }
+state_of o = record { press = o.seal.press; seal = o.seal.chain; contents = contents_of o.contents }
 
 abbrev pub closed_state_of : {P : Type 0} → ClosedRoll P → State P
-closed_state_of c = record { press = c.press; seal = c.seal; contents = contents_of c.contents }
+closed_state_of c = record { press = c.seal.press; seal = c.seal.chain; contents = contents_of c.contents }
 
 -- an open with n for the size: a new roll; or the press comes back
 abbrev pub Opens : {P : Type 0} → (P → ℕ → List ℕ) → P → ℕ → Result (OpenRoll P) (Declined P) → Type 0

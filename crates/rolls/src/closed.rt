@@ -8,7 +8,6 @@ ghost use Rattle.roll_contents.specs.Contents.{total_of};
 ghost use Rattle.rolls.specs.Buffers.{Writes};
 ghost use Rattle.rolls.specs.Rolls.{state_of, closed_state_of, digest_length, digest_in};
 
-use crate::chain::write_tail;
 use crate::state::{ClosedRoll, OpenRoll};
 use press::Press;
 use refusals::refusal::Refusal;
@@ -20,10 +19,11 @@ impl<P: Press> ClosedRoll<P> {
         ensures answer { outcome result ≡ buffer_refusal (length out.old) (digest_length (closed_state_of self.now)) }
         ensures written { Writes result (digest_length (closed_state_of self.now)) (digest_in (closed_state_of self.now)) out.old out.new }
     {
-        write_tail(&self.seal, self.contents.size().bytes(), out)
+        self.seal.write(self.contents.size().bytes(), out)
     }
 
     // The charged cents and the count of all standing passages, shipped ones included.
+    // Kept: the two rolls are two types, and each asks its contents in one line.
     pub fn total(&self) -> Total
         ensures { result ≡ total_of (closed_state_of self.now).contents }
     {
@@ -32,20 +32,12 @@ impl<P: Press> ClosedRoll<P> {
 
     // Undoes the close: the ending block is wound back.
     pub fn reopen(self) -> OpenRoll<P>
-        ensures block { Bytes 64 (P.ends self.press (standing_count (closed_state_of self).contents)) }
+        ensures block { Bytes 64 (P.ends (closed_state_of self).press (standing_count (closed_state_of self).contents)) }
         ensures after { state_of result ≡ after_reopen P.backs P.ends (closed_state_of self) }
     {
-        let ClosedRoll {
-            press,
-            seal,
-            contents,
-        } = self;
-        let last = press.ending(contents.standing());
-        let seal = press.back(&seal, &last);
-        OpenRoll {
-            press,
-            seal,
-            contents,
-        }
+        let ClosedRoll { mut seal, contents } = self;
+        let last = seal.press.ending(contents.standing());
+        seal.back(&last);
+        OpenRoll { seal, contents }
     }
 }

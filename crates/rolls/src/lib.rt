@@ -1,8 +1,8 @@
 // Rolls: sealed rows of passages, over any press.
 #![tactic(auto)]
 
-mod chain;
 mod closed;
 mod open;
 mod saving;
+mod seal;
 pub mod state;

@@ -9,9 +9,9 @@ ghost use Rattle.roll_contents.specs.Contents.{total_of};
 ghost use Rattle.rolls.specs.Buffers.{Writes};
 ghost use Rattle.rolls.specs.Rolls.{state_of, closed_state_of, Opens};
 
-use crate::chain::{advance, unwind, write_tail};
+use crate::seal::Seal;
 use crate::state::{ClosedRoll, OpenRoll};
-use press::{Declined, Press};
+use press::{Block, Declined, Press};
 use refusals::refusal::Refusal;
 use refusals::size::DigestSize;
 use roll_contents::contents::{RollContents, Total};
@@ -21,16 +21,12 @@ impl<P: Press> OpenRoll<P> {
     pub fn open(press: P, size: u32) -> Result<OpenRoll<P>, Declined<P>>
         ensures { Opens P.opens press size result }
     {
+        // Kept: each side moves the press, which a closure for `map_err` would take from the other.
         match DigestSize::try_from(size) {
-            Ok(size) => {
-                let seal = press.opening(size);
-                let contents = RollContents::new(size);
-                Ok(OpenRoll {
-                    press,
-                    seal,
-                    contents,
-                })
-            }
+            Ok(size) => Ok(OpenRoll {
+                seal: Seal::open(press, size),
+                contents: RollContents::new(size),
+            }),
             Err(refusal) => Err(Declined { press, refusal }),
         }
     }
@@ -43,8 +39,7 @@ impl<P: Press> OpenRoll<P> {
         ensures after { Leaves result (state_of self.old) (state_of self.new) (after_pass P.steps (state_of self.old) passage.now) }
     {
         let passage = self.contents.enter(passage)?;
-        let seal = self.press.step(&self.seal, &passage.encode());
-        self.seal = seal;
+        self.seal.step(&Block::from(&passage));
         Ok(())
     }
 
@@ -55,9 +50,8 @@ impl<P: Press> OpenRoll<P> {
         ensures after { Leaves result (state_of self.old) (state_of self.new) (after_cancel P.steps P.backs (state_of self.old) serial) }
     {
         let i = self.contents.place_of(serial)?;
-        let before = unwind(&self.press, &self.seal, self.contents.tail(i));
-        let seal = advance(&self.press, &before, self.contents.tail(i + 1));
-        self.seal = seal;
+        self.seal.unwind(self.contents.tail(i));
+        self.seal.advance(self.contents.tail(i + 1));
         self.contents.take_out(i);
         Ok(())
     }
@@ -72,10 +66,8 @@ impl<P: Press> OpenRoll<P> {
         if out.len() < 64 {
             return Err(Refusal::Buffer);
         }
-        let Some(passage) = self.contents.take_oldest() else {
-            return Err(Refusal::Empty);
-        };
-        out[0..64].copy_from_slice(&passage.encode());
+        let passage = self.contents.take_oldest().ok_or(Refusal::Empty)?;
+        out[..64].copy_from_slice(&Block::from(&passage));
         Ok(())
     }
 
@@ -83,18 +75,10 @@ impl<P: Press> OpenRoll<P> {
     pub fn close(self) -> ClosedRoll<P>
         ensures { closed_state_of result ≡ after_close P.steps P.ends (state_of self) }
     {
-        let OpenRoll {
-            press,
-            seal,
-            contents,
-        } = self;
-        let last = press.ending(contents.standing());
-        let seal = press.step(&seal, &last);
-        ClosedRoll {
-            press,
-            seal,
-            contents,
-        }
+        let OpenRoll { mut seal, contents } = self;
+        let last = seal.press.ending(contents.standing());
+        seal.step(&last);
+        ClosedRoll { seal, contents }
     }
 
     // Writes the 128 bytes of the seal; refuses a shorter buffer.
@@ -102,7 +86,7 @@ impl<P: Press> OpenRoll<P> {
         ensures answer { outcome result ≡ buffer_refusal (length out.old) 128 }
         ensures written { Writes result 128 (state_of self.now).seal out.old out.new }
     {
-        write_tail(&self.seal, 128, out)
+        self.seal.write(128, out)
     }
 
     // The charged cents and the count of all standing passages, shipped ones included.
@@ -123,11 +107,6 @@ impl<P: Press> OpenRoll<P> {
     pub fn into_press(self) -> P
         ensures { result ≡ (state_of self).press }
     {
-        let OpenRoll {
-            press,
-            seal: _,
-            contents: _,
-        } = self;
-        press
+        self.seal.press
     }
 }

@@ -18,7 +18,7 @@ impl<P: Press> OpenRoll<P> {
         ensures answer { outcome result ≡ refused_save (state_of self.now).contents (length out.old) }
         ensures text { WritesText (state_of self.now).seal (state_of self.now).contents out.old out.new result }
     {
-        self.contents.write(&self.seal, out)
+        self.contents.write(&self.seal.chain, out)
     }
 
     // Fills the roll, its size too, from a saved text; refuses every text that is not that of a valid roll, by number and line.
@@ -26,8 +26,8 @@ impl<P: Press> OpenRoll<P> {
         ensures { Resumes text.now (state_of self.old) (state_of self.new) result }
     {
         let resumed = RollContents::read(text)?;
-        let seal = resumed.seal;
-        self.seal = seal;
+        let chain = resumed.seal;
+        self.seal.chain = chain;
         self.contents = resumed.contents;
         Ok(())
     }

@@ -1,6 +1,5 @@
-use Rattle.std.proofs.Common.{◌≡◌, length, ap₂, sym, ◌∙◌, rules, arith}
+use Rattle.std.proofs.Common.{◌≡◌, ◌<◌, length, ap₂, sym, ◌∙◌, rules, arith}
 use Rattle.std.proofs.lemmas.Result.{IfOk-weaker}
-use Rattle.std.proofs.lemmas.Bool.{eqb-false}
 use Rattle.passages.specs.Fields.{fits_after}
 use Rattle.passages.specs.Laws.{Decodes}
 use Rattle.window.proofs.Held.{length_listed}
@@ -15,13 +14,14 @@ returns-clause-taken c =
     let long : length m ≡ 64 = search rules in
     let few = c.args.self.now.window.few in
     let held = length_listed c.args.self.now.window in
+    let room : length k.window < 32 = search rules in
     let last = c.last_serial-last.ensures in
     IfOk-weaker c.decode_after.result (Decodes c.last_serial-last.result c.in_ok-block.block.now) (Admits k m)
     (λ p d.
     record {
       bytes = d.bytes ∙ same;
       wide = search rules;
-      room = omega (arith, few, eqb-false (length k.window) 32 (sym c.is_full.ensures ∙ c.if-is_full.false));
+      room = room;
       standing = omega arith;
       fits = ap₂ fits_after (sym last) (sym same) ∙ d.fits;
     })
