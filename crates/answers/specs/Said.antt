@@ -1,9 +1,8 @@
 -- What an answer says, and the line that tells it.
 use Rattle.std.specs.Prelude.{◌≡◌, ℕ, ◌/◌, ◌<◌, List, [], ◌∷◌, ◌++◌, length, take, codes, decimal}
+use Rattle.refusals.specs.Refusals.{number}
 use Rattle.refusals.specs.Sizes.{bits_in}
 use Rattle.fields.specs.Hex.{hex_of}
-use Rattle.fields.specs.Texts.{written}
-use Rattle.fields.specs.declared.text.Text.{Text}
 use Rattle.answers.specs.declared.answer.LineAnswer.{LineAnswer}
 use Rattle.answers.specs.declared.answer.LineAnswer.TheVariants.{Done, Refused, Shipped, Closed, Total}
 
@@ -16,7 +15,7 @@ pub data Said : Type 0 where
 
 abbrev pub said : LineAnswer → Said
 said Done = done
-said (Refused n) = refused n
+said (Refused e) = refused (number e)
 said (Shipped m) = shipped m
 said (Closed s d) = closed (take (bits_in s / 8) d)
 said (Total cents count) = total cents count
@@ -38,6 +37,6 @@ abbrev pub capacity : ℕ
 capacity = 137
 
 -- a text has the fields of an answer, with room for the line feed
-pub record Tells (t : Text capacity) (s : Said) : Type 0 where
-  pub bytes : written capacity t ≡ fields_of s
+pub record Tells (t : List ℕ) (s : Said) : Type 0 where
+  pub bytes : t ≡ fields_of s
   pub room : length (fields_of s) < capacity

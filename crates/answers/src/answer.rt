@@ -1,14 +1,15 @@
 // The answers to requests.
 use press::Block;
+use refusals::refusal::Refusal;
 use refusals::size::DigestSize;
 
 // The answer to a request, as a line tells it.
-#[derive(Clone, Copy)]
+#[derive(Clone, Copy, Debug, PartialEq, Eq)]
 pub enum LineAnswer {
     // The call was made.
     Done,
-    // The call was refused by that number.
-    Refused(u8),
+    // The call was refused.
+    Refused(Refusal),
     // The passage that was shipped.
     Shipped(Block),
     // The digest of the roll that was closed: as many of the first bytes as its size has.

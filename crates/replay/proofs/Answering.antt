@@ -1,10 +1,10 @@
 -- What a call answers, in the daybook's words.
-use Rattle.std.proofs.Common.{◌≡◌, ℕ, ◌≤◌, min, Bool, false, cond, eqb, List, ◌++◌, length, take, drop, IfOk, Ok, Err, Result, sym, refl, ap, ◌∙◌, ap₂, arith}
-use Rattle.std.proofs.lemmas.List.{append_assoc, append-nil, take_at, drop_all}
+use Rattle.std.proofs.Common.{◌≡◌, ℕ, ◌≤◌, min, false, cond, eqb, List, [], ◌++◌, length, take, drop, IfOk, Ok, Err, Result, sym, refl, ap, ◌∙◌, ap₂, arith}
+use Rattle.std.proofs.lemmas.List.{append_assoc, append-nil, take_at, take_all, drop_all, length-take-le}
 use Rattle.std.proofs.lemmas.Bool.Decides.{nat_tests}
 use Rattle.refusals.specs.Refusals.{number, outcome, ship_refusal, buffer_refusal}
 use Rattle.refusals.specs.declared.refusal.Refusal.{Refusal}
-use Rattle.refusals.specs.declared.refusal.Refusal.TheVariants.{Size, Bytes, Bits, Buffer, Length, Full, Standing, Serial, Form, Price, Shipped as Gone, Unknown, Empty}
+use Rattle.refusals.specs.declared.refusal.Refusal.TheVariants.{Size, Bytes, Bits, Buffer, Length, Full, Standing, Serial, Form, Price, Shipped as Gone, Unknown, Empty, Line, Values, Request as NotAllowed}
 use Rattle.daybook.specs.Contents.{contents_length}
 use Rattle.daybook.specs.States.{State}
 use Rattle.daybook.specs.Daybook.{Call, Daybook, daybook}
@@ -35,10 +35,28 @@ not_zero Price = refl
 not_zero Gone = refl
 not_zero Unknown = refl
 not_zero Empty = refl
+not_zero Line = refl
+not_zero Values = refl
+not_zero NotAllowed = refl
 
--- so a refusal is told by it
-pub told_number : (e : Refusal) (a : Answer) → Refused (number e) ≡ answered (number e) a
-told_number e a = ap (λ (b : Bool). cond b a (Refused (number e))) (sym (not_zero e))
+-- so a call is answered by the refusal with its number
+pub told_refusal : (e : Refusal) (a : Answer) → Refused e ≡ answered (number e) a
+told_refusal Size a = refl
+told_refusal Bytes a = refl
+told_refusal Bits a = refl
+told_refusal Buffer a = refl
+told_refusal Length a = refl
+told_refusal Full a = refl
+told_refusal Standing a = refl
+told_refusal Serial a = refl
+told_refusal Form a = refl
+told_refusal Price a = refl
+told_refusal Gone a = refl
+told_refusal Unknown a = refl
+told_refusal Empty a = refl
+told_refusal Line a = refl
+told_refusal Values a = refl
+told_refusal NotAllowed a = refl
 
 -- after a save any request but a resume and a reopen is one to an open roll
 pub kept_else : (size : ℕ) (calls : List Call) (q : Request) → (q ≡ Resume → ⊥) → (q ≡ Reopen → ⊥) → turn_kept size calls q ≡ turn_open size calls q
@@ -77,6 +95,14 @@ saved_text s (Ok k) t part part' rest h l w e =
     let front : take k (part' ++ rest) ≡ t =
     ap (λ x. take k (x ++ rest)) h.2 ∙ ap (take k) (append_assoc t (drop (length t) part) rest) ∙ take_at t (drop (length t) part ++ rest) k (sym h.1) in
     (omega (arith, h.0, h.1, w), h.1 ∙ l, ap read_text front ∙ e)
+
+-- the first n of some bytes, in a text with room for 4,700
+pub in_text : (none text bytes : List ℕ) (n m : ℕ) → m ≡ n → n ≤ 4700 → length bytes ≡ 4700 → none ≡ [] → text ≡ take 4700 (none ++ take m bytes)
+    → (text ≡ take n bytes) × (length text ≡ n)
+in_text none text bytes n m e few wide empty put =
+    let l = length-take-le n bytes (omega (arith, few, wide)) in
+    let w : text ≡ take n bytes = put ∙ ap₂ (λ t k. take 4700 (t ++ take k bytes)) empty e ∙ take_all 4700 (take n bytes) (omega (arith, l, few)) in
+    (w, ap length w ∙ l)
 
 module _ {P : Type 0} (opens : P → ℕ → List ℕ) (steps : P → List ℕ → List ℕ → List ℕ) where
   -- a call that goes on with every course, and whose answer is the number's

@@ -1,3 +1,4 @@
 pub mod Answering
+pub mod Numbered
 pub mod Resuming
 pub mod Rows

@@ -17,11 +17,11 @@ use Rattle.replay.specs.declared.roll.Roll.{Roll}
 use Rattle.replay.specs.declared.roll.Roll.TheVariants.{Open, Saved, Closed}
 
 abbrev pub text_in : SavedText → List ℕ
-text_in t = take t.len t.bytes
+text_in t = t.text
 
 -- a text from which the roll at the state s can be resumed
 abbrev pub KeepsText : {P : Type 0} → State P → SavedText → Type 0
-KeepsText s t = (read_text (text_in t) ≡ Ok (saved_of s)) × (t.len ≡ contents_length s.contents)
+KeepsText s t = (read_text (text_in t) ≡ Ok (saved_of s)) × (length (text_in t) ≡ contents_length s.contents)
 
 -- a save of the roll at the state s that wrote n of the bytes
 abbrev pub SavesText : {P : Type 0} → State P → List ℕ → Result ℕ Refusal → Type 0
@@ -35,6 +35,8 @@ Answers {P = P} opens steps s c accepted a s' =
     (p : P) (size : ℕ) (calls : List Call) → Came opens steps p s size calls
     → (a ≡ answered (refusal (daybook size calls) c) (accepted (daybook size calls))) × Came opens steps p s' size (calls ++ c ∷ [])
 
+-- Kept: the three functions of a press stand beside one another; a clause would have to make a record of them first,
+-- `functions P.opens P.steps P.ends`, which is longer than the three names.
 module _ {P : Type 0} (opens : P → ℕ → List ℕ) (steps : P → List ℕ → List ℕ → List ℕ) (ends : P → ℕ → List ℕ) (p : P) (size : ℕ) where
   -- the roll stands in that phase, and came by these calls
   abbrev pub Stands : Roll P → Phase → List Call → Type 0

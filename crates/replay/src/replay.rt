@@ -34,8 +34,7 @@ pub fn read<P: Press>(roll: &Roll<P>) -> Reading
     ensures { ReadsAny P.opens P.steps P.ends roll.now result }
 {
     match roll {
-        Roll::Open(roll) => read_open(roll),
-        Roll::Saved(roll, _) => read_open(roll),
+        Roll::Open(roll) | Roll::Saved(roll, _) => read_open(roll),
         Roll::Closed(roll) => read_closed(roll),
     }
 }
@@ -46,8 +45,8 @@ fn run<P: Press + Drop>(roll: OpenRoll<P>, requests: &[Request], answers: &mut [
     ensures { Runs P.opens P.steps P.ends (state_of roll) requests.now answers.old answers.new result }
 {
     let mut roll = Roll::Open(roll);
-    for i in 0..requests.len() {
-        let (next, answer) = turn(roll, &requests[i]);
+    for (i, request) in requests.iter().enumerate() {
+        let (next, answer) = turn(roll, request);
         roll = next;
         answers[i] = answer;
     }

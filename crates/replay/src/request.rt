@@ -1,9 +1,10 @@
 // What is asked of a roll, what it answers, and what it tells at the end.
 use press::{Block, Chain};
+use refusals::refusal::Refusal;
 use roll_contents::contents::Total;
 
 // A call, with what it is given: the bytes of a passage, a serial, the length of a buffer.
-#[derive(Clone, Copy)]
+#[derive(Clone, Copy, PartialEq, Eq, Debug)]
 pub enum Request<'a> {
     Close,
     Reopen,
@@ -16,13 +17,13 @@ pub enum Request<'a> {
 }
 
 // What a request is answered.
-#[derive(Clone, Copy)]
+#[derive(Clone, Copy, PartialEq, Eq, Debug)]
 pub enum Answer {
     // The state of the roll does not allow the call.
     Skipped,
     Done,
-    // The call is refused by that number.
-    Refused(u8),
+    // The call is refused.
+    Refused(Refusal),
     // The passage that was shipped.
     Shipped(Block),
     // The length of the saved text.
@@ -30,7 +31,7 @@ pub enum Answer {
 }
 
 // What a roll tells at the end.
-#[derive(Clone, Copy)]
+#[derive(Clone, Copy, PartialEq, Eq, Debug)]
 pub enum Reading {
     // An open roll: its total and its seal.
     Sealed(Total, Chain),

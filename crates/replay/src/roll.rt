@@ -1,15 +1,26 @@
 // A roll between two requests.
-ghost use Rattle.std.specs.Prelude.{◌≡◌, ◌≤◌, length};
+ghost use Rattle.std.specs.Prelude.{◌≡◌, true, is_ok};
+ghost use Rattle.text_laws.specs.Saved.{read_text};
 
+use fields::text::Text;
 use rolls::state::{ClosedRoll, OpenRoll};
 
-// A saved text: the first `len` of bytes that are more than any saved text has.
+// A saved text: that of a valid roll. No saved text has as many bytes as it has room for.
 #[derive(Clone, Copy)]
 pub struct SavedText {
-    pub(crate) bytes: [u8; 4700],
-    pub(crate) len: usize,
-    ghost wide: { length bytes ≡ 4700 },
-    ghost within: { len ≤ 4700 },
+    pub(crate) text: Text<4700>,
+    ghost valid: { is_ok (read_text text) ≡ true },
+}
+
+impl SavedText {
+    ghost use Rattle.replay.specs.Stands.{text_in};
+
+    // The bytes of the text.
+    pub(crate) fn as_slice(&self) -> &[u8]
+        ensures { result.now ≡ text_in self.now }
+    {
+        self.text.as_slice()
+    }
 }
 
 #[derive(Drop)]

@@ -14,18 +14,23 @@ ghost use Rattle.replay.specs.Stands.{Answers, text_in, KeepsText, SavesText, Tu
 
 use crate::request::{Answer, Request};
 use crate::roll::{Roll, SavedText};
+use fields::text::Text;
 use press::{Block, Press};
 use refusals::refusal::Refusal;
 use refusals::size::DigestSize;
 use rolls::state::{ClosedRoll, OpenRoll};
 
 // The answer to a call that hands nothing out.
-fn told(res: Result<(), Refusal>) -> Answer
-    ensures { result ≡ answered (outcome res) Answer.Done }
-{
-    match res {
-        Ok(()) => Answer::Done,
-        Err(refusal) => Answer::Refused(refusal.number()),
+impl From<Result<(), Refusal>> for Answer {
+    ghost use Rattle.replay.specs.declared.request.Answer.TheVariants.{Done};
+
+    ghost from_gives = { λ res answer. answer ≡ answered (outcome res) Done };
+
+    fn from(res: Result<(), Refusal>) -> Answer {
+        match res {
+            Ok(()) => Answer::Done,
+            Err(refusal) => Answer::Refused(refusal),
+        }
     }
 }
 
@@ -45,13 +50,13 @@ fn ship_into<P: Press>(
 fn pass<P: Press>(roll: &mut OpenRoll<P>, passage: &[u8]) -> Answer
     ensures { Answers P.opens P.steps (state_of roll.old) (passing passage.now) (λ _. Answer.Done) result (state_of roll.new) }
 {
-    told(roll.pass(passage))
+    Answer::from(roll.pass(passage))
 }
 
 fn cancel<P: Press>(roll: &mut OpenRoll<P>, serial: u32) -> Answer
     ensures { Answers P.opens P.steps (state_of roll.old) (cancelling serial) (λ _. Answer.Done) result (state_of roll.new) }
 {
-    told(roll.cancel(serial))
+    Answer::from(roll.cancel(serial))
 }
 
 fn ship<P: Press>(roll: &mut OpenRoll<P>, room: usize) -> Answer
@@ -60,7 +65,7 @@ fn ship<P: Press>(roll: &mut OpenRoll<P>, room: usize) -> Answer
     let mut block = [0; 64];
     match ship_into(roll, room, &mut block) {
         Ok(()) => Answer::Shipped(block),
-        Err(refusal) => Answer::Refused(refusal.number()),
+        Err(refusal) => Answer::Refused(refusal),
     }
 }
 
@@ -78,11 +83,13 @@ fn save_into<P: Press>(
 
 fn save<P: Press>(roll: &OpenRoll<P>, room: usize) -> Result<SavedText, Refusal>
     ensures answer { outcome result ≡ refused_save (state_of roll.now).contents room }
-    ensures text { IfOk result (λ t. KeepsText (state_of roll.now) t) }
+    ensures text { IfOk result (KeepsText (state_of roll.now)) }
 {
     let mut bytes = [0; 4700];
     let len = save_into(roll, room, &mut bytes)?;
-    Ok(SavedText { bytes, len })
+    let mut text = Text::new();
+    text.push(&bytes[0..len]);
+    Ok(SavedText { text })
 }
 
 // A save, and the answer to it.
@@ -91,10 +98,10 @@ fn save_turn<P: Press>(roll: OpenRoll<P>, room: usize) -> (Roll<P>, Answer)
 {
     match save(&roll, room) {
         Ok(text) => {
-            let len = text.len;
+            let len = text.as_slice().len();
             (Roll::Saved(roll, text), Answer::Wrote(len))
         }
-        Err(refusal) => (Roll::Open(roll), Answer::Refused(refusal.number())),
+        Err(refusal) => (Roll::Open(roll), Answer::Refused(refusal)),
     }
 }
 
@@ -111,11 +118,12 @@ fn other_size(size: DigestSize) -> u32
 
 // A new roll over the same press, opened with another size and filled from the text.
 fn resume_new<P: Press + Drop>(roll: OpenRoll<P>, text: &SavedText) -> OpenRoll<P>
-    ensures { read_text (text_in text.now) ≡ Ok (saved_of (state_of roll)) → state_of result ≡ state_of roll }
+    ensures press { (state_of result).press ≡ (state_of roll).press }
+    ensures told { read_text (text_in text.now) ≡ Ok (saved_of (state_of result)) }
 {
     let size = other_size(roll.size());
     let mut fresh = OpenRoll::open(roll.into_press(), size).unwrap();
-    let _ = fresh.resume(&text.bytes[0..text.len]);
+    fresh.resume(text.as_slice()).unwrap();
     fresh
 }
 
@@ -135,27 +143,21 @@ fn reopen_turn<P: Press>(roll: ClosedRoll<P>) -> (Roll<P>, Answer)
 fn turn_open<P: Press>(mut roll: OpenRoll<P>, request: &Request) -> (Roll<P>, Answer)
     ensures { Turns P.opens P.steps P.ends (state_of roll) (λ size calls. turn_open size calls request.now) result.0 result.1 }
 {
-    match request {
-        Request::Close => close_turn(roll),
-        Request::Pass(passage) => {
-            let answer = pass(&mut roll, passage);
-            (Roll::Open(roll), answer)
-        }
-        Request::Cancel(serial) => {
-            let answer = cancel(&mut roll, *serial);
-            (Roll::Open(roll), answer)
-        }
-        Request::Ship(room) => {
-            let answer = ship(&mut roll, *room);
-            (Roll::Open(roll), answer)
-        }
-        Request::Save(room) => save_turn(roll, *room),
-        Request::Reopen => (Roll::Open(roll), Answer::Skipped),
-        Request::Resume => (Roll::Open(roll), Answer::Skipped),
-    }
+    let answer = match request {
+        Request::Close => return close_turn(roll),
+        Request::Save(room) => return save_turn(roll, *room),
+        Request::Pass(passage) => pass(&mut roll, passage),
+        Request::Cancel(serial) => cancel(&mut roll, *serial),
+        Request::Ship(room) => ship(&mut roll, *room),
+        Request::Reopen => Answer::Skipped,
+        Request::Resume => Answer::Skipped,
+    };
+    (Roll::Open(roll), answer)
 }
 
 // A request to an open roll, right after a save.
+// Kept: that the text is this roll's is a premise here and no invariant of a struct of the two. Such a type would be narrower:
+// `turn` takes any open roll with any saved text.
 fn turn_saved<P: Press + Drop>(
     roll: OpenRoll<P>,
     text: SavedText,
@@ -180,7 +182,8 @@ fn turn_closed<P: Press>(roll: ClosedRoll<P>, request: &Request) -> (Roll<P>, An
     }
 }
 
-// A request to a roll.
+// A request to a roll: the roll after it, and the answer.
+// Kept: a pair, which every caller takes apart at once; a struct would only give its parts their names again.
 pub fn turn<P: Press + Drop>(roll: Roll<P>, request: &Request) -> (Roll<P>, Answer)
     ensures { TurnsAny P.opens P.steps P.ends roll request.now result.0 result.1 }
 {

@@ -3,7 +3,7 @@ ghost use Rattle.std.specs.Prelude.{◌≡◌};
 ghost use Rattle.requests.specs.Requests.{alone_of, pass_of, cancel_of, press_of, open_of, word_of, request_of};
 
 use crate::request::{LineRequest, PressName};
-use fields::cuts::{cut, same};
+use fields::cuts::cut;
 use fields::decimals::number;
 use fields::hex::bytes;
 
@@ -11,48 +11,36 @@ use fields::hex::bytes;
 fn alone(line: &[u8]) -> Option<LineRequest>
     ensures { result ≡ alone_of line.now }
 {
-    if same(line, b"ship") {
-        return Some(LineRequest::Ship);
+    match line {
+        b"ship" => Some(LineRequest::Ship),
+        b"close" => Some(LineRequest::Close),
+        b"reopen" => Some(LineRequest::Reopen),
+        b"total" => Some(LineRequest::Total),
+        _ => None,
     }
-    if same(line, b"close") {
-        return Some(LineRequest::Close);
-    }
-    if same(line, b"reopen") {
-        return Some(LineRequest::Reopen);
-    }
-    if same(line, b"total") {
-        return Some(LineRequest::Total);
-    }
-    None
 }
 
 fn pass(field: &[u8]) -> Option<LineRequest>
     ensures { result ≡ pass_of field.now }
 {
-    let passage = bytes(field)?;
-    Some(LineRequest::Pass(passage))
+    bytes(field).map(LineRequest::Pass)
 }
 
 fn cancel(field: &[u8]) -> Option<LineRequest>
     ensures { result ≡ cancel_of field.now }
 {
-    let serial = number(field)?;
-    if serial > 4_294_967_295 {
-        return None;
-    }
-    Some(LineRequest::Cancel(serial as u32))
+    let serial = u32::try_from(number(field)?).ok()?;
+    Some(LineRequest::Cancel(serial))
 }
 
 fn press_name(word: &[u8]) -> Option<PressName>
     ensures { result ≡ press_of word.now }
 {
-    if same(word, b"jh") {
-        return Some(PressName::Jh);
+    match word {
+        b"jh" => Some(PressName::Jh),
+        b"drill" => Some(PressName::Drill),
+        _ => None,
     }
-    if same(word, b"drill") {
-        return Some(PressName::Drill);
-    }
-    None
 }
 
 fn open(rest: &[u8]) -> Option<LineRequest>
@@ -68,16 +56,12 @@ fn open(rest: &[u8]) -> Option<LineRequest>
 fn by_word(word: &[u8], rest: &[u8]) -> Option<LineRequest>
     ensures { result ≡ word_of word.now rest.now }
 {
-    if same(word, b"open") {
-        return open(rest);
+    match word {
+        b"open" => open(rest),
+        b"pass" => pass(rest),
+        b"cancel" => cancel(rest),
+        _ => None,
     }
-    if same(word, b"pass") {
-        return pass(rest);
-    }
-    if same(word, b"cancel") {
-        return cancel(rest);
-    }
-    None
 }
 
 // The request on a line, without its line feed; none for a line that is no request.

@@ -1,11 +1,13 @@
 -- A request that makes a call: the answer, and the course after it.
 use Rattle.std.proofs.Common.{◌≡◌, ℕ, Bool, true, false, cond, eqb, List, [], ◌∷◌, ◌++◌, sym, refl, ap, ◌∙◌, subst, arith}
 use Rattle.std.proofs.lemmas.List.Sums.{fold_push}
+use Rattle.refusals.specs.Refusals.{number}
 use Rattle.refusals.specs.Sizes.{bits_in}
 use Rattle.daybook.specs.Daybook.{Call, daybook, next, unwritten, refusal, next_out}
 use Rattle.daybook.specs.Daybook.Call.{passing, cancelling, shipping, closing}
-use Rattle.replay.specs.Heard.{opened, shut, Turn, turn_open, turn_shut, answered, digest_at}
+use Rattle.replay.specs.Heard.{opened, shut, Turn, turn_open, turn_shut, answered, digest_at, refusal_of}
 use Rattle.replay.specs.Stands.{Stands}
+use Rattle.replay.proofs.Numbered.{Numbered, numbered}
 use Rattle.replay.specs.declared.request.Request.{Request}
 use Rattle.replay.specs.declared.request.Answer.{Answer}
 use Rattle.replay.specs.declared.request.Answer.TheVariants.{Done, Refused, Shipped}
@@ -19,8 +21,13 @@ use Rattle.sessions.specs.Told.{told, makes_call, open_turn, shut_turn, Makes, T
 use Rattle.sessions.specs.Sessions.{Functions, meant, Holds}
 use Rattle.sessions.specs.declared.state.SizedRoll.{SizedRoll}
 
-told_answered : (n : ℕ) (a : Answer) → told (answered n a) ≡ unless n (told a)
-told_answered n a = elim (eqb n 0) as (λ b. told (cond b a (Refused n)) ≡ cond b (told a) (refused n)) [ true ↦ refl | false ↦ refl ]
+-- where n is 0 or the number of a refusal
+told_answered : (n : ℕ) (a : Answer) → Numbered n → told (answered n a) ≡ unless n (told a)
+told_answered n a h =
+    (elim (eqb n 0) as (λ b. cond b 0 (number (refusal_of n)) ≡ n → told (cond b a (Refused (refusal_of n))) ≡ cond b (told a) (refused n)) [
+      | true ↦ λ e. refl
+      | false ↦ λ e. ap refused e
+    ]) h
 
 absurd_bool : ◌≡◌ {A = Bool} false true → ⊥
 absurd_bool h = let z : ◌≡◌ {A = ℕ} 0 1 = cc in omega arith
@@ -35,9 +42,9 @@ module _ {P : Type 0} (f : Functions P) (p : P) (r : SizedRoll P) (a b : LineAns
       → TellsClose f.opens f.steps f.ends q a (bits_in r.size) r.roll b
       → (said b ≡ open_says (meant f p) size calls q) × Holds f p r (open_next size calls q)
   on_open (Open name n) m h s t = absurd (absurd_bool m)
-  on_open (Pass x) m h s t = (ap said (t.other refl) ∙ h ∙ told_answered (refusal (daybook size calls) (passing x)) Done, (bits, s))
-  on_open (Cancel n) m h s t = (ap said (t.other refl) ∙ h ∙ told_answered (refusal (daybook size calls) (cancelling n)) Done, (bits, s))
-  on_open Ship m h s t = (ap said (t.other refl) ∙ h ∙ told_answered (refusal (daybook size calls) (shipping 64)) (Shipped (next_out (daybook size calls))), (bits, s))
+  on_open (Pass x) m h s t = (ap said (t.other refl) ∙ h ∙ told_answered (refusal (daybook size calls) (passing x)) Done (numbered (daybook size calls) (passing x)), (bits, s))
+  on_open (Cancel n) m h s t = (ap said (t.other refl) ∙ h ∙ told_answered (refusal (daybook size calls) (cancelling n)) Done (numbered (daybook size calls) (cancelling n)), (bits, s))
+  on_open Ship m h s t = (ap said (t.other refl) ∙ h ∙ told_answered (refusal (daybook size calls) (shipping 64)) (Shipped (next_out (daybook size calls))) (numbered (daybook size calls) (shipping 64)), (bits, s))
   on_open Close m h s t =
       let S : ℕ → Type 0 = λ n. Stands f.opens f.steps f.ends p n r.roll shut (calls ++ closing ∷ []) in (
         t.digest refl h p (calls ++ closing ∷ []) (subst S (sym bits) s)

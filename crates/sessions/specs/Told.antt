@@ -1,5 +1,6 @@
 -- What a line tells of the answer to a call.
 use Rattle.std.specs.Prelude.{◌≡◌, ℕ, Bool, true, false, List, Some, None, Option}
+use Rattle.refusals.specs.Refusals.{number}
 use Rattle.daybook.specs.Daybook.{Call, daybook, next_out}
 use Rattle.daybook.specs.Daybook.Call.{passing, cancelling, shipping, closing, reopening}
 use Rattle.requests.specs.declared.request.LineRequest.{LineRequest}
@@ -18,7 +19,7 @@ use Rattle.sessions.specs.Courses.{not_allowed}
 abbrev pub told : Answer → Said
 told Skipped = not_allowed
 told Done = done
-told (Refused n) = refused n
+told (Refused e) = refused (number e)
 told (Shipped m) = shipped m
 told (Wrote n) = done
 

@@ -11,18 +11,20 @@ ghost use Rattle.sessions.specs.Told.{told};
 
 use answers::answer::LineAnswer;
 use press::Press;
+use refusals::refusal::Refusal;
 use refusals::size::DigestSize;
 use replay::replay::read;
 use replay::request::{Answer, Reading};
 use replay::roll::Roll;
 
 // What a line tells of the answer to a call; 16 where the state of the roll does not allow it. No line asks for a save.
+// Kept: no `From`, since both types belong to other crates.
 pub(crate) fn line_answer(answer: Answer) -> LineAnswer
     ensures { said result ≡ told answer }
 {
     match answer {
-        Answer::Skipped => LineAnswer::Refused(16),
-        Answer::Refused(number) => LineAnswer::Refused(number),
+        Answer::Skipped => LineAnswer::Refused(Refusal::Request),
+        Answer::Refused(refusal) => LineAnswer::Refused(refusal),
         Answer::Shipped(passage) => LineAnswer::Shipped(passage),
         Answer::Done | Answer::Wrote(_) => LineAnswer::Done,
     }
@@ -33,8 +35,9 @@ pub(crate) fn total<P: Press>(roll: &Roll<P>) -> LineAnswer
     ensures { (p : P) (size : ℕ) (f : Phase) (calls : List Call) → Stands P.opens P.steps P.ends p size roll.now f calls → said result ≡ totalled (daybook size calls) }
 {
     match read(roll) {
-        Reading::Sealed(total, _) => LineAnswer::Total(total.cents, total.count),
-        Reading::Digested(total, _) => LineAnswer::Total(total.cents, total.count),
+        Reading::Sealed(total, _) | Reading::Digested(total, _) => {
+            LineAnswer::Total(total.cents, total.count)
+        }
     }
 }
 
@@ -43,7 +46,7 @@ pub(crate) fn digest<P: Press>(size: DigestSize, roll: &Roll<P>) -> LineAnswer
     ensures { (p : P) (calls : List Call) → Stands P.opens P.steps P.ends p (bits_in size) roll.now shut calls → said result ≡ closed (digest_at (P.opens p) (P.steps p) (P.ends p) (daybook (bits_in size) calls)) }
 {
     match read(roll) {
-        Reading::Sealed(_, _) => LineAnswer::Refused(16),
+        Reading::Sealed(_, _) => LineAnswer::Refused(Refusal::Request),
         Reading::Digested(_, digest) => LineAnswer::Closed(size, digest),
     }
 }

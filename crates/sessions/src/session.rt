@@ -1,5 +1,8 @@
 // A session: the requests of one caller, on one roll.
-ghost use Rattle.std.specs.Prelude.{◌≡◌};
+ghost use Rattle.std.specs.Prelude.{◌≡◌, Ok, Err, MatchResult};
+ghost use Rattle.refusals.specs.Refusals.{number};
+ghost use Rattle.answers.specs.Said.{said};
+ghost use Rattle.answers.specs.Said.Said.{done, refused};
 ghost use Rattle.requests.specs.Requests.{request_of};
 ghost use Rattle.sessions.specs.Sessions.{functions, Opened, Answers, GoesOn};
 
@@ -17,18 +20,33 @@ use rolls::state::OpenRoll;
 fn open<P: Press>(press: P, bits: u64) -> Result<SizedRoll<P>, Declined<P>>
     ensures { Opened (functions P.opens P.steps P.ends) press bits result }
 {
-    if bits > 4_294_967_295 {
+    let Ok(size) = u32::try_from(bits) else {
         return Err(Declined {
             press,
             refusal: Refusal::Size,
         });
-    }
-    let roll = OpenRoll::open(press, bits as u32)?;
+    };
+    let roll = OpenRoll::open(press, size)?;
     let size = roll.size();
     Ok(SizedRoll {
         size,
         roll: Roll::Open(roll),
     })
+}
+
+// Opens a roll over the press, and answers; the session is made of the roll, or of the press that came back.
+fn begin<P: Press, S, F: FnOnce(Result<SizedRoll<P>, P>) -> S>(
+    press: P,
+    bits: u64,
+    session: F,
+) -> (S, LineAnswer)
+    requires { F.IsAlwaysCallable session }
+    ensures { (r : _) × Opened (functions P.opens P.steps P.ends) press bits r × MatchResult r (λ roll. F.post session (Ok roll) result.0 × (said result.1 ≡ done)) (λ d. F.post session (Err d.press) result.0 × (said result.1 ≡ refused (number d.refusal))) }
+{
+    match open(press, bits) {
+        Ok(roll) => (session(Ok(roll)), LineAnswer::Done),
+        Err(Declined { press, refusal }) => (session(Err(press)), LineAnswer::Refused(refusal)),
+    }
 }
 
 // A request before a roll is open: only an open is allowed.
@@ -40,21 +58,18 @@ fn first<J: Press + Drop, D: Press + Drop>(
     ensures { Answers (functions J.opens J.steps J.ends) (functions D.opens D.steps D.ends) (Session.Unopened jh drill) request.now result.0 result.1 }
 {
     match request {
-        LineRequest::Open(PressName::Jh, bits) => match open(jh, *bits) {
-            Ok(roll) => (Session::Jh(roll), LineAnswer::Done),
-            Err(Declined { press, refusal }) => (
-                Session::Unopened(press, drill),
-                LineAnswer::Refused(refusal.number()),
-            ),
-        },
-        LineRequest::Open(PressName::Drill, bits) => match open(drill, *bits) {
-            Ok(roll) => (Session::Drill(roll), LineAnswer::Done),
-            Err(Declined { press, refusal }) => (
-                Session::Unopened(jh, press),
-                LineAnswer::Refused(refusal.number()),
-            ),
-        },
-        _ => (Session::Unopened(jh, drill), LineAnswer::Refused(16)),
+        LineRequest::Open(PressName::Jh, bits) => begin(jh, *bits, |opened| match opened {
+            Ok(roll) => Session::Jh(roll),
+            Err(jh) => Session::Unopened(jh, drill),
+        }),
+        LineRequest::Open(PressName::Drill, bits) => begin(drill, *bits, |opened| match opened {
+            Ok(roll) => Session::Drill(roll),
+            Err(drill) => Session::Unopened(jh, drill),
+        }),
+        _ => (
+            Session::Unopened(jh, drill),
+            LineAnswer::Refused(Refusal::Request),
+        ),
     }
 }
 
@@ -65,6 +80,8 @@ fn request<J: Press + Drop, D: Press + Drop>(
 ) -> (Session<J, D>, LineAnswer)
     ensures { Answers (functions J.opens J.steps J.ends) (functions D.opens D.steps D.ends) session request.now result.0 result.1 }
 {
+    // Kept: a function for both arms would take the variant, whose type names the other press too; the borrow checker has no
+    // proof of such a call.
     match session {
         Session::Unopened(jh, drill) => first(jh, drill, request),
         Session::Jh(roll) => {
@@ -88,6 +105,6 @@ pub fn answer<J: Press + Drop, D: Press + Drop>(
 {
     match read(line) {
         Some(asked) => request(session, &asked),
-        None => (session, LineAnswer::Refused(16)),
+        None => (session, LineAnswer::Refused(Refusal::Request)),
     }
 }

@@ -10,11 +10,13 @@ use crate::answering::{digest, line_answer, total};
 use crate::state::SizedRoll;
 use answers::answer::LineAnswer;
 use press::Press;
+use refusals::refusal::Refusal;
 use replay::request::Request;
 use replay::turn::turn;
 use requests::request::LineRequest;
 
 // The call that a request makes on a roll; none for one that makes none.
+// Kept: no `From`, since both types belong to other crates.
 fn call_of<'a>(request: &'a LineRequest) -> Option<Request<'a>>
     ensures { Calls request.now result }
 {
@@ -55,7 +57,7 @@ fn look<P: Press>(sized: &SizedRoll<P>, request: &LineRequest) -> LineAnswer
 {
     match request {
         LineRequest::Total => total(&sized.roll),
-        _ => LineAnswer::Refused(16),
+        _ => LineAnswer::Refused(Refusal::Request),
     }
 }
 

@@ -1,7 +1,5 @@
 -- The requests of a text, a line at a time.
-use Rattle.std.proofs.Common.{◌≡◌, ℕ, suc, ◌+◌, ◌-◌, ◌<◌, ◌≤◌, min, true, false, cond, eqb, List, [], ◌∷◌, ◌++◌, length, take, drop, Some, None, Option, sym, ap, ◌∙◌, subst, ⊎_elim, append_assoc, append-nil, arith, length-drop}
-use native.Mathlib.Nat.{min-eq_left, min-eq_right}
-use Rattle.std.proofs.lemmas.List.{take_all}
+use Rattle.std.proofs.Common.{◌≡◌, ℕ, suc, ◌+◌, ◌<◌, ◌≤◌, true, false, cond, eqb, List, [], ◌∷◌, ◌++◌, length, take, drop, Some, None, Option, sym, ap, ◌∙◌, subst, ⊎_elim, append_assoc, append-nil, arith, length-drop}
 use Rattle.std.proofs.lemmas.Bool.{lt-ltb, le-ltb, eq-eqb, ne_eqb, cases_lt}
 use Rattle.fields.specs.Cuts.{up_to, cut_at}
 use Rattle.requests.specs.declared.request.LineRequest.{LineRequest}
@@ -71,16 +69,3 @@ cut_shorter t =
 
 pub after_shorter : (t l r : List ℕ) → cut_at 10 t ≡ Some (l, r) → length r < length t
 after_shorter t l r e = subst (Shorter t) e (cut_shorter t)
-
--- the part of a text that is read
-pub part_read : (t : List ℕ) (m n : ℕ) → m ≡ min (length t) n → take (m - 0) t ≡ take n t
-part_read t m n e =
-    ⊎_elim
-    (λ (h : length t < n).
-    let k = e ∙ min-eq_left {n = length t} {m = n} (omega (arith, h)) in
-    take_all (m - 0) t (omega (arith, k)) ∙ sym (take_all n t (omega (arith, h))))
-    (λ (h : n ≤ length t).
-    let k = e ∙ min-eq_right {n = n} {m = length t} h in
-    let z : m - 0 ≡ n = omega (arith, k) in
-    ap (λ j. take j t) z)
-    (cases_lt (length t) n)

@@ -1,5 +1,5 @@
 -- Part of a text is answered.
-use Rattle.std.proofs.Common.{◌≡◌, ℕ, ◌+◌, ◌<◌, ◌≤◌, List, [], ◌++◌, length, take, Some, None, Ok, Err, vec_items, vec_capacity, Result, Vec, sym, refl, ap, ◌∙◌, append_assoc, append-nil, arith, length-append}
+use Rattle.std.proofs.Common.{◌≡◌, ℕ, ◌+◌, ◌<◌, ◌≤◌, List, [], ◌++◌, length, take, Some, None, Ok, Err, is_err, true, false, vec_items, vec_capacity, Result, Vec, sym, refl, ap, ◌∙◌, append_assoc, append-nil, arith, length-append}
 use Rattle.std.proofs.lemmas.List.{take_at}
 use Rattle.std.specs.declared.alloc.AllocError.{AllocError}
 use Rattle.std.specs.declared.alloc.Global.{Global}
@@ -12,6 +12,17 @@ use Rattle.sessions.specs.Sessions.{Functions, meant, CameBy, GoesOn}
 use Rattle.sessions.specs.declared.state.Session.{Session}
 use Rattle.transcript.specs.Output.{requests, answers_on, Added, Fronted}
 use Rattle.transcript.proofs.Lines.{first_request, no_request, part_request}
+
+-- what failed is cut back to the bytes that stood before
+pub cut_back : (r : Result (Unit {0}) AllocError) (v w w' : Vec ℕ Global) (t : List ℕ) → is_err r ≡ true → vec_items w' ≡ take (length (vec_items v)) (vec_items w)
+    → Fronted r v w t → Added r v w' t
+cut_back (Ok u) v w w' t e cut h = cc
+cut_back (Err x) v w w' t e cut h = (cut ∙ h.0, h.1)
+
+-- and what did not fail stays
+pub stays : (r : Result (Unit {0}) AllocError) (v w : Vec ℕ Global) (t : List ℕ) → is_err r ≡ false → Fronted r v w t → Added r v w t
+stays (Ok u) v w t e h = h
+stays (Err x) v w t e h = cc
 
 module _ {J D : Type 0} (f : Functions J) (g : Functions D) where
   abbrev all_answers : J → D → Course → List ℕ → List ℕ

@@ -10,6 +10,7 @@ ghost use Rattle.transcript.specs.Output.{output, Added, Runs};
 use answers::answer::LineAnswer;
 use fields::cuts::cut;
 use press::Press;
+use refusals::refusal::Refusal;
 use sessions::session::answer;
 use sessions::state::Session;
 use std::alloc::AllocError;
@@ -34,16 +35,17 @@ fn run<J: Press + Drop, D: Press + Drop>(
 {
     let mut session = session;
     let mut rest = text;
+    // Kept: over `split_inclusive` a loop would have to take each line's feed off again, and find a last part that has none.
     while let Some((line, after)) = cut(rest, b'\n') {
         let (next, told) = answer(session, line);
         session = next;
         add(out, &told)?;
         rest = after;
     }
-    if rest.len() == 0 {
+    if rest.is_empty() {
         return Ok(());
     }
-    add(out, &LineAnswer::Refused(16))
+    add(out, &LineAnswer::Refused(Refusal::Request))
 }
 
 // Adds the answers to the first 65,536 bytes of a text of requests, with a press for each name. It fails only where `out` has no
@@ -57,12 +59,10 @@ pub fn transcribe<J: Press + Drop, D: Press + Drop>(
     ensures { Added result out.old out.new (output (by_name (meant (functions J.opens J.steps J.ends) jh) (meant (functions D.opens D.steps D.ends) drill)) text.now) }
 {
     let old = out.len();
-    let most = text.len().min(MOST_READ);
-    match run(Session::Unopened(jh, drill), &text[0..most], out) {
-        Ok(()) => Ok(()),
-        Err(error) => {
-            out.truncate(old);
-            Err(error)
-        }
+    let read = &text[..MOST_READ.min(text.len())];
+    let result = run(Session::Unopened(jh, drill), read, out);
+    if result.is_err() {
+        out.truncate(old);
     }
+    result
 }

@@ -1,3 +1,5 @@
+use Rattle.std.proofs.Common.{length, sym, ◌∙◌}
+use Rattle.std.proofs.lemmas.Bool.{eqb-true, eqb-false}
 use Rattle.std.proofs.lemmas.Result.{err_from_is_err_and}
 use Rattle.sessions.specs.Sessions.{functions}
 use Rattle.transcript.proofs.Lines.{after_shorter}
@@ -23,14 +25,14 @@ returns-in_err-add g c = λ j d k h.
     c.args.session c.args.text.now c.args.out.now c.loop-line.session c.loop-line.rest.now c.loop-line.out c.loop-line.invariant
     c.add.new.out c.answer-next.result.0 c.answer-next.result.1 c.in-Some.line.now c.in-Some.after.now c.in-Some.ensures c.answer-next.ensures c.in_err-add.ensures j d k h)
 
-pub returns-then-rest-eq0 : goal.returns-then-rest-eq0
-returns-then-rest-eq0 g c =
+pub returns-then-is_empty : goal.returns-then-is_empty
+returns-then-is_empty g c =
     ends (functions g.J.Press.opens g.J.Press.steps g.J.Press.ends) (functions g.D.Press.opens g.D.Press.steps g.D.Press.ends)
     c.args.session c.args.text.now c.args.out.now c.loop-line.session c.loop-line.rest.now c.loop-line.out c.loop-line.invariant
-    c.in_default.ensures c.if-rest-eq0.true
+    c.in_default.ensures (eqb-true (length c.loop-line.rest.now) 0 (sym c.is_empty.ensures ∙ c.if-is_empty.true))
 
 pub returns : goal.returns
 returns g c =
     last (functions g.J.Press.opens g.J.Press.steps g.J.Press.ends) (functions g.D.Press.opens g.D.Press.steps g.D.Press.ends)
     c.args.session c.args.text.now c.args.out.now c.loop-line.session c.loop-line.rest.now c.loop-line.out c.loop-line.invariant
-    c.add-2.result c.add-2.new.out c.in_default.ensures c.if-rest-eq0.false c.add-2.ensures
+    c.add-2.result c.add-2.new.out c.in_default.ensures (eqb-false (length c.loop-line.rest.now) 0 (sym c.is_empty.ensures ∙ c.if-is_empty.false)) c.add-2.ensures

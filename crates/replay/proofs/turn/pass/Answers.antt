@@ -13,5 +13,5 @@ returns g c =
     let m = c.args.passage.now in
     let r = c.pass.result in
     let e = c.pass.ensures in
-    answers_by g.P.Press.opens g.P.Press.steps s (passing m) (λ d. Done) (outcome r) c.told.result s'
-    (pass_goes g.P.Press.opens g.P.Press.steps m s r s' e.answer e.block e.after) (λ p size calls h. c.told.ensures)
+    answers_by g.P.Press.opens g.P.Press.steps s (passing m) (λ d. Done) (outcome r) c.from.result s'
+    (pass_goes g.P.Press.opens g.P.Press.steps m s r s' e.answer e.block e.after) (λ p size calls h. c.from.ensures)
