@@ -6,7 +6,7 @@ ghost use Rattle.refusals.specs.Refusals.{outcome, buffer_refusal};
 ghost use Rattle.jh.specs.Jh.{MeansE8};
 ghost use Rattle.daybook.specs.Daybook.{Call, daybook};
 ghost use Rattle.rolls.specs.Buffers.{Writes};
-ghost use Rattle.rolls.specs.Rolls.{closed_state_of, digest_length, digest_in};
+ghost use Rattle.rolls.specs.Rolls.{digest_length, digest_in};
 ghost use Rattle.replay.specs.Replays.{Replays};
 ghost use Rattle.jh_rolls.specs.Jh.{opens as jh_opens, steps as jh_steps, ends as jh_ends, CameShut, jh_of, TellsJh};
 
@@ -21,9 +21,9 @@ use rolls::state::ClosedRoll;
 // Writes the digest of a closed roll; refuses a shorter buffer. Over a permutation that means E8 it is JH of the standing passages,
 // by whatever calls the roll came.
 pub fn digest<P: Permutation>(roll: &ClosedRoll<JhPress<P>>, out: &mut [u8]) -> Result<(), Refusal>
-    ensures answer { outcome result ≡ buffer_refusal (length out.old) (digest_length (closed_state_of roll.now)) }
-    ensures written { Writes result (digest_length (closed_state_of roll.now)) (digest_in (closed_state_of roll.now)) out.old out.new }
-    ensures jh { MeansE8 (P.image roll.now.press.permutation) → OnOk result ((size : ℕ) (calls : List Call) → CameShut P.image (closed_state_of roll.now) size calls → out.new ≡ jh_of (daybook size calls) ++ drop (size / 8) out.old) }
+    ensures answer { outcome result ≡ buffer_refusal (length out.old) (digest_length roll.now) }
+    ensures written { Writes result (digest_length roll.now) (digest_in roll.now) out.old out.new }
+    ensures jh { MeansE8 (P.image roll.now.press.permutation) → OnOk result ((size : ℕ) (calls : List Call) → CameShut P.image roll.now size calls → out.new ≡ jh_of (daybook size calls) ++ drop (size / 8) out.old) }
 {
     roll.digest(out)
 }

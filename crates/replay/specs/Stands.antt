@@ -6,7 +6,6 @@ use Rattle.daybook.specs.States.{State}
 use Rattle.daybook.specs.Daybook.{Call, Daybook, daybook, refusal}
 use Rattle.daybook.specs.Course.{Came, CameClosed}
 use Rattle.text_laws.specs.Saved.{read_text}
-use Rattle.rolls.specs.Rolls.{state_of, closed_state_of}
 use Rattle.rolls.specs.Texts.{saved_of}
 use Rattle.replay.specs.Heard.{answered, Phase, Turn, turn, Heard, opened, kept, shut, heard, reading_open, reading_at}
 use Rattle.replay.specs.declared.request.Request.{Request}
@@ -40,9 +39,9 @@ Answers {P = P} opens steps s c accepted a s' =
 module _ {P : Type 0} (opens : P → ℕ → List ℕ) (steps : P → List ℕ → List ℕ → List ℕ) (ends : P → ℕ → List ℕ) (p : P) (size : ℕ) where
   -- the roll stands in that phase, and came by these calls
   abbrev pub Stands : Roll P → Phase → List Call → Type 0
-  Stands (Open o) f calls = (f ≡ opened) × Came opens steps p (state_of o) size calls
-  Stands (Saved o t) f calls = (f ≡ kept) × Came opens steps p (state_of o) size calls × (read_text (text_in t) ≡ Ok (saved_of (state_of o)))
-  Stands (Closed c) f calls = (f ≡ shut) × CameClosed opens steps ends p (closed_state_of c) size calls
+  Stands (Open o) f calls = (f ≡ opened) × Came opens steps p o size calls
+  Stands (Saved o t) f calls = (f ≡ kept) × Came opens steps p o size calls × (read_text (text_in t) ≡ Ok (saved_of o))
+  Stands (Closed c) f calls = (f ≡ shut) × CameClosed opens steps ends p c size calls
 
   -- the roll stands where the turn led, and the answer is the turn's
   pub record Turned (r : Roll P) (a : Answer) (t : Turn) : Type 0 where

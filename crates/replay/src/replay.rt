@@ -1,6 +1,5 @@
 // A whole row of requests.
 ghost use Rattle.std.specs.Prelude.{◌≤◌, length};
-ghost use Rattle.rolls.specs.Rolls.{state_of, closed_state_of};
 ghost use Rattle.replay.specs.Stands.{ReadsOpen, ReadsClosed, ReadsAny, Runs};
 ghost use Rattle.replay.specs.Replays.{Replays};
 
@@ -13,7 +12,7 @@ use rolls::state::{ClosedRoll, OpenRoll};
 
 // What an open roll tells.
 fn read_open<P: Press>(roll: &OpenRoll<P>) -> Reading
-    ensures { ReadsOpen P.opens P.steps (state_of roll.now) result }
+    ensures { ReadsOpen P.opens P.steps roll.now result }
 {
     let mut seal = [0; 128];
     let _ = roll.seal(&mut seal);
@@ -22,7 +21,7 @@ fn read_open<P: Press>(roll: &OpenRoll<P>) -> Reading
 
 // What a closed roll tells.
 fn read_closed<P: Press>(roll: &ClosedRoll<P>) -> Reading
-    ensures { ReadsClosed P.opens P.steps P.ends (closed_state_of roll.now) result }
+    ensures { ReadsClosed P.opens P.steps P.ends roll.now result }
 {
     let mut digest = [0; 64];
     let _ = roll.digest(&mut digest);
@@ -42,7 +41,7 @@ pub fn read<P: Press>(roll: &Roll<P>) -> Reading
 // The requests one after the other, on a new roll.
 fn run<P: Press + Drop>(roll: OpenRoll<P>, requests: &[Request], answers: &mut [Answer]) -> Roll<P>
     requires { length requests.now ≤ length answers.old }
-    ensures { Runs P.opens P.steps P.ends (state_of roll) requests.now answers.old answers.new result }
+    ensures { Runs P.opens P.steps P.ends roll requests.now answers.old answers.new result }
 {
     let mut roll = Roll::Open(roll);
     for (i, request) in requests.iter().enumerate() {

@@ -7,7 +7,6 @@ ghost use Rattle.daybook.specs.States.{after_ship, Leaves};
 ghost use Rattle.daybook.specs.Daybook.{next_out};
 ghost use Rattle.daybook.specs.Daybook.Call.{passing, cancelling, shipping};
 ghost use Rattle.text_laws.specs.Saved.{read_text};
-ghost use Rattle.rolls.specs.Rolls.{state_of, closed_state_of};
 ghost use Rattle.rolls.specs.Texts.{saved_of};
 ghost use Rattle.replay.specs.Heard.{answered, turn_open, turn_kept, turn_shut};
 ghost use Rattle.replay.specs.Stands.{Answers, text_in, KeepsText, SavesText, Turns, TurnsClosed, TurnsAny};
@@ -40,27 +39,27 @@ fn ship_into<P: Press>(
     room: usize,
     block: &mut Block,
 ) -> Result<(), Refusal>
-    ensures answer { outcome result ≡ refused_ship (state_of roll.old).contents room }
-    ensures after { Leaves result (state_of roll.old) (state_of roll.new) (after_ship (state_of roll.old)) }
-    ensures written { OnOk result (block.new ≡ oldest (state_of roll.old).contents) }
+    ensures answer { outcome result ≡ refused_ship roll.old.contents room }
+    ensures after { Leaves result roll.old roll.new (after_ship roll.old) }
+    ensures written { OnOk result (block.new ≡ oldest roll.old.contents) }
 {
     roll.ship(&mut block[0..room.min(64)])
 }
 
 fn pass<P: Press>(roll: &mut OpenRoll<P>, passage: &[u8]) -> Answer
-    ensures { Answers P.opens P.steps (state_of roll.old) (passing passage.now) (λ _. Answer.Done) result (state_of roll.new) }
+    ensures { Answers P.opens P.steps roll.old (passing passage.now) (λ _. Answer.Done) result roll.new }
 {
     Answer::from(roll.pass(passage))
 }
 
 fn cancel<P: Press>(roll: &mut OpenRoll<P>, serial: u32) -> Answer
-    ensures { Answers P.opens P.steps (state_of roll.old) (cancelling serial) (λ _. Answer.Done) result (state_of roll.new) }
+    ensures { Answers P.opens P.steps roll.old (cancelling serial) (λ _. Answer.Done) result roll.new }
 {
     Answer::from(roll.cancel(serial))
 }
 
 fn ship<P: Press>(roll: &mut OpenRoll<P>, room: usize) -> Answer
-    ensures { Answers P.opens P.steps (state_of roll.old) (shipping room) (λ d. Answer.Shipped (next_out d)) result (state_of roll.new) }
+    ensures { Answers P.opens P.steps roll.old (shipping room) (λ d. Answer.Shipped (next_out d)) result roll.new }
 {
     let mut block = [0; 64];
     match ship_into(roll, room, &mut block) {
@@ -75,15 +74,15 @@ fn save_into<P: Press>(
     room: usize,
     bytes: &mut [u8; 4700],
 ) -> Result<usize, Refusal>
-    ensures answer { outcome result ≡ refused_save (state_of roll.now).contents room }
-    ensures text { SavesText (state_of roll.now) bytes.new result }
+    ensures answer { outcome result ≡ refused_save roll.now.contents room }
+    ensures text { SavesText roll.now bytes.new result }
 {
     roll.save(&mut bytes[0..room.min(4700)])
 }
 
 fn save<P: Press>(roll: &OpenRoll<P>, room: usize) -> Result<SavedText, Refusal>
-    ensures answer { outcome result ≡ refused_save (state_of roll.now).contents room }
-    ensures text { IfOk result (KeepsText (state_of roll.now)) }
+    ensures answer { outcome result ≡ refused_save roll.now.contents room }
+    ensures text { IfOk result (KeepsText roll.now) }
 {
     let mut bytes = [0; 4700];
     let len = save_into(roll, room, &mut bytes)?;
@@ -94,7 +93,7 @@ fn save<P: Press>(roll: &OpenRoll<P>, room: usize) -> Result<SavedText, Refusal>
 
 // A save, and the answer to it.
 fn save_turn<P: Press>(roll: OpenRoll<P>, room: usize) -> (Roll<P>, Answer)
-    ensures { Turns P.opens P.steps P.ends (state_of roll) (λ size calls. turn_open size calls (Request.Save room)) result.0 result.1 }
+    ensures { Turns P.opens P.steps P.ends roll (λ size calls. turn_open size calls (Request.Save room)) result.0 result.1 }
 {
     match save(&roll, room) {
         Ok(text) => {
@@ -118,8 +117,8 @@ fn other_size(size: DigestSize) -> u32
 
 // A new roll over the same press, opened with another size and filled from the text.
 fn resume_new<P: Press + Drop>(roll: OpenRoll<P>, text: &SavedText) -> OpenRoll<P>
-    ensures press { (state_of result).press ≡ (state_of roll).press }
-    ensures told { read_text (text_in text.now) ≡ Ok (saved_of (state_of result)) }
+    ensures press { result.press ≡ roll.press }
+    ensures told { read_text (text_in text.now) ≡ Ok (saved_of result) }
 {
     let size = other_size(roll.size());
     let mut fresh = OpenRoll::open(roll.into_press(), size).unwrap();
@@ -128,20 +127,20 @@ fn resume_new<P: Press + Drop>(roll: OpenRoll<P>, text: &SavedText) -> OpenRoll<
 }
 
 fn close_turn<P: Press>(roll: OpenRoll<P>) -> (Roll<P>, Answer)
-    ensures { Turns P.opens P.steps P.ends (state_of roll) (λ size calls. turn_open size calls Request.Close) result.0 result.1 }
+    ensures { Turns P.opens P.steps P.ends roll (λ size calls. turn_open size calls Request.Close) result.0 result.1 }
 {
     (Roll::Closed(roll.close()), Answer::Done)
 }
 
 fn reopen_turn<P: Press>(roll: ClosedRoll<P>) -> (Roll<P>, Answer)
-    ensures { TurnsClosed P.opens P.steps P.ends (closed_state_of roll) (λ size calls. turn_shut size calls Request.Reopen) result.0 result.1 }
+    ensures { TurnsClosed P.opens P.steps P.ends roll (λ size calls. turn_shut size calls Request.Reopen) result.0 result.1 }
 {
     (Roll::Open(roll.reopen()), Answer::Done)
 }
 
 // A request to an open roll.
 fn turn_open<P: Press>(mut roll: OpenRoll<P>, request: &Request) -> (Roll<P>, Answer)
-    ensures { Turns P.opens P.steps P.ends (state_of roll) (λ size calls. turn_open size calls request.now) result.0 result.1 }
+    ensures { Turns P.opens P.steps P.ends roll (λ size calls. turn_open size calls request.now) result.0 result.1 }
 {
     let answer = match request {
         Request::Close => return close_turn(roll),
@@ -163,7 +162,7 @@ fn turn_saved<P: Press + Drop>(
     text: SavedText,
     request: &Request,
 ) -> (Roll<P>, Answer)
-    ensures { read_text (text_in text) ≡ Ok (saved_of (state_of roll)) → Turns P.opens P.steps P.ends (state_of roll) (λ size calls. turn_kept size calls request.now) result.0 result.1 }
+    ensures { read_text (text_in text) ≡ Ok (saved_of roll) → Turns P.opens P.steps P.ends roll (λ size calls. turn_kept size calls request.now) result.0 result.1 }
 {
     match request {
         Request::Resume => (Roll::Open(resume_new(roll, &text)), Answer::Done),
@@ -174,7 +173,7 @@ fn turn_saved<P: Press + Drop>(
 
 // A request to a closed roll.
 fn turn_closed<P: Press>(roll: ClosedRoll<P>, request: &Request) -> (Roll<P>, Answer)
-    ensures { TurnsClosed P.opens P.steps P.ends (closed_state_of roll) (λ size calls. turn_shut size calls request.now) result.0 result.1 }
+    ensures { TurnsClosed P.opens P.steps P.ends roll (λ size calls. turn_shut size calls request.now) result.0 result.1 }
 {
     match request {
         Request::Reopen => reopen_turn(roll),

@@ -6,7 +6,7 @@ ghost use Rattle.daybook.specs.Contents.{standing_count};
 ghost use Rattle.daybook.specs.States.{after_reopen};
 ghost use Rattle.roll_contents.specs.Contents.{total_of};
 ghost use Rattle.rolls.specs.Buffers.{Writes};
-ghost use Rattle.rolls.specs.Rolls.{state_of, closed_state_of, digest_length, digest_in};
+ghost use Rattle.rolls.specs.Rolls.{digest_length, digest_in};
 
 use crate::state::{ClosedRoll, OpenRoll};
 use press::Press;
@@ -16,8 +16,8 @@ use roll_contents::contents::Total;
 impl<P: Press> ClosedRoll<P> {
     // Writes the digest, the last size / 8 bytes of the closed seal; refuses a shorter buffer.
     pub fn digest(&self, out: &mut [u8]) -> Result<(), Refusal>
-        ensures answer { outcome result ≡ buffer_refusal (length out.old) (digest_length (closed_state_of self.now)) }
-        ensures written { Writes result (digest_length (closed_state_of self.now)) (digest_in (closed_state_of self.now)) out.old out.new }
+        ensures answer { outcome result ≡ buffer_refusal (length out.old) (digest_length self.now) }
+        ensures written { Writes result (digest_length self.now) (digest_in self.now) out.old out.new }
     {
         self.seal.write(self.contents.size().bytes(), out)
     }
@@ -25,15 +25,15 @@ impl<P: Press> ClosedRoll<P> {
     // The charged cents and the count of all standing passages, shipped ones included.
     // Kept: the two rolls are two types, and each asks its contents in one line.
     pub fn total(&self) -> Total
-        ensures { result ≡ total_of (closed_state_of self.now).contents }
+        ensures { result ≡ total_of self.now.contents }
     {
         self.contents.total()
     }
 
     // Undoes the close: the ending block is wound back.
     pub fn reopen(self) -> OpenRoll<P>
-        ensures block { Bytes 64 (P.ends (closed_state_of self).press (standing_count (closed_state_of self).contents)) }
-        ensures after { state_of result ≡ after_reopen P.backs P.ends (closed_state_of self) }
+        ensures block { Bytes 64 ((P.means self.press).ends (standing_count self.contents)) }
+        ensures after { result ≡ after_reopen P.means P.backs self }
     {
         let ClosedRoll { mut seal, contents } = self;
         let last = seal.press.ending(contents.standing());

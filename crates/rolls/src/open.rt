@@ -7,7 +7,7 @@ ghost use Rattle.daybook.specs.Contents.{refused_pass, refused_cancel, refused_s
 ghost use Rattle.daybook.specs.States.{after_pass, after_cancel, after_ship, after_close, Leaves};
 ghost use Rattle.roll_contents.specs.Contents.{total_of};
 ghost use Rattle.rolls.specs.Buffers.{Writes};
-ghost use Rattle.rolls.specs.Rolls.{state_of, closed_state_of, Opens};
+ghost use Rattle.rolls.specs.Rolls.{Opens};
 
 use crate::seal::Seal;
 use crate::state::{ClosedRoll, OpenRoll};
@@ -19,7 +19,7 @@ use roll_contents::contents::{RollContents, Total};
 impl<P: Press> OpenRoll<P> {
     // Opens a roll of that digest size, in bits; refuses a size that is none of the four, and hands the press back.
     pub fn open(press: P, size: u32) -> Result<OpenRoll<P>, Declined<P>>
-        ensures { Opens P.opens press size result }
+        ensures { Opens P.means press size result }
     {
         // Kept: each side moves the press, which a closure for `map_err` would take from the other.
         match DigestSize::try_from(size) {
@@ -34,9 +34,9 @@ impl<P: Press> OpenRoll<P> {
     // Passes the passage in these bytes: it joins the window, and the seal steps with it. Refuses bytes that are not 64, a
     // full window, 1,000,000 standing passages, and a serial, form or prices that do not fit.
     pub fn pass(&mut self, passage: &[u8]) -> Result<(), Refusal>
-        ensures answer { outcome result ≡ refused_pass (state_of self.old).contents passage.now }
+        ensures answer { outcome result ≡ refused_pass self.old.contents passage.now }
         ensures block { OnOk result (Bytes 64 passage.now) }
-        ensures after { Leaves result (state_of self.old) (state_of self.new) (after_pass P.steps (state_of self.old) passage.now) }
+        ensures after { Leaves result self.old self.new (after_pass P.means self.old passage.now) }
     {
         let passage = self.contents.enter(passage)?;
         self.seal.step(&Block::from(&passage));
@@ -46,8 +46,8 @@ impl<P: Press> OpenRoll<P> {
     // Cancels the passage in the window with that serial: the seal is wound back through it and the later ones, newest first,
     // and steps through the later ones again. Refuses a serial that was shipped, and one that the window does not hold.
     pub fn cancel(&mut self, serial: u32) -> Result<(), Refusal>
-        ensures answer { outcome result ≡ refused_cancel (state_of self.old).contents serial }
-        ensures after { Leaves result (state_of self.old) (state_of self.new) (after_cancel P.steps P.backs (state_of self.old) serial) }
+        ensures answer { outcome result ≡ refused_cancel self.old.contents serial }
+        ensures after { Leaves result self.old self.new (after_cancel P.means P.backs self.old serial) }
     {
         let i = self.contents.place_of(serial)?;
         self.seal.unwind(self.contents.tail(i));
@@ -59,9 +59,9 @@ impl<P: Press> OpenRoll<P> {
     // Ships the oldest passage of the window: writes its 64 bytes and frees its place; it still stands. Refuses a buffer of
     // less than 64 bytes, and an empty window.
     pub fn ship(&mut self, out: &mut [u8]) -> Result<(), Refusal>
-        ensures answer { outcome result ≡ refused_ship (state_of self.old).contents (length out.old) }
-        ensures after { Leaves result (state_of self.old) (state_of self.new) (after_ship (state_of self.old)) }
-        ensures written { Writes result 64 (oldest (state_of self.old).contents) out.old out.new }
+        ensures answer { outcome result ≡ refused_ship self.old.contents (length out.old) }
+        ensures after { Leaves result self.old self.new (after_ship self.old) }
+        ensures written { Writes result 64 (oldest self.old.contents) out.old out.new }
     {
         if out.len() < 64 {
             return Err(Refusal::Buffer);
@@ -73,7 +73,7 @@ impl<P: Press> OpenRoll<P> {
 
     // Closes the roll: the seal steps with the press's ending for the count of standing passages.
     pub fn close(self) -> ClosedRoll<P>
-        ensures { closed_state_of result ≡ after_close P.steps P.ends (state_of self) }
+        ensures { result ≡ after_close P.means self }
     {
         let OpenRoll { mut seal, contents } = self;
         let last = seal.press.ending(contents.standing());
@@ -84,28 +84,28 @@ impl<P: Press> OpenRoll<P> {
     // Writes the 128 bytes of the seal; refuses a shorter buffer.
     pub fn seal(&self, out: &mut [u8]) -> Result<(), Refusal>
         ensures answer { outcome result ≡ buffer_refusal (length out.old) 128 }
-        ensures written { Writes result 128 (state_of self.now).seal out.old out.new }
+        ensures written { Writes result 128 self.now.seal out.old out.new }
     {
         self.seal.write(128, out)
     }
 
     // The charged cents and the count of all standing passages, shipped ones included.
     pub fn total(&self) -> Total
-        ensures { result ≡ total_of (state_of self.now).contents }
+        ensures { result ≡ total_of self.now.contents }
     {
         self.contents.total()
     }
 
     // The digest size.
     pub fn size(&self) -> DigestSize
-        ensures { bits_in result ≡ (state_of self.now).contents.size }
+        ensures { bits_in result ≡ self.now.contents.size }
     {
         self.contents.size()
     }
 
     // Lets the roll go, and hands its press back.
     pub fn into_press(self) -> P
-        ensures { result ≡ (state_of self).press }
+        ensures { result ≡ self.press }
     {
         self.seal.press
     }

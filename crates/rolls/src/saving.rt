@@ -3,7 +3,6 @@ ghost use Rattle.std.specs.Prelude.{◌≡◌, length};
 ghost use Rattle.refusals.specs.Refusals.{outcome};
 ghost use Rattle.daybook.specs.Contents.{refused_save};
 ghost use Rattle.roll_contents.specs.Texts.{WritesText};
-ghost use Rattle.rolls.specs.Rolls.{state_of};
 ghost use Rattle.rolls.specs.Texts.{Resumes};
 
 use crate::state::OpenRoll;
@@ -15,15 +14,15 @@ use saved_text::snapshot::TextFault;
 impl<P: Press> OpenRoll<P> {
     // Writes the saved text of the roll, and answers its length; refuses a shorter buffer. What it writes can be resumed.
     pub fn save(&self, out: &mut [u8]) -> Result<usize, Refusal>
-        ensures answer { outcome result ≡ refused_save (state_of self.now).contents (length out.old) }
-        ensures text { WritesText (state_of self.now).seal (state_of self.now).contents out.old out.new result }
+        ensures answer { outcome result ≡ refused_save self.now.contents (length out.old) }
+        ensures text { WritesText self.now.seal self.now.contents out.old out.new result }
     {
         self.contents.write(&self.seal.chain, out)
     }
 
     // Fills the roll, its size too, from a saved text; refuses every text that is not that of a valid roll, by number and line.
     pub fn resume(&mut self, text: &[u8]) -> Result<(), TextFault>
-        ensures { Resumes text.now (state_of self.old) (state_of self.new) result }
+        ensures { Resumes text.now self.old self.new result }
     {
         let resumed = RollContents::read(text)?;
         let chain = resumed.seal;

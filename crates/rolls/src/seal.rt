@@ -22,7 +22,7 @@ impl<P: Press> Seal<P> {
 
     // The opening value of that digest size.
     pub(crate) fn open(press: P, size: DigestSize) -> Self
-        ensures { result ≡ seal_at press (P.opens press (bits_in size)) }
+        ensures { result ≡ seal_at press ((P.means press).opens (bits_in size)) }
     {
         let chain = press.opening(size);
         Seal { press, chain }
@@ -30,7 +30,7 @@ impl<P: Press> Seal<P> {
 
     // Steps with a block.
     pub(crate) fn step(&mut self, block: &Block)
-        ensures { self.new ≡ seal_at self.old.press (P.steps self.old.press self.old.chain block.now) }
+        ensures { self.new ≡ seal_at self.old.press ((P.means self.old.press).steps self.old.chain block.now) }
     {
         self.chain = self.press.step(&self.chain, block);
     }
@@ -44,7 +44,7 @@ impl<P: Press> Seal<P> {
 
     // Steps through the passages in order.
     pub(crate) fn advance(&mut self, passages: &[Passage])
-        ensures { self.new ≡ seal_at self.old.press (fold (P.steps self.old.press) self.old.chain (encoded_all passages.now)) }
+        ensures { self.new ≡ seal_at self.old.press (fold (P.means self.old.press).steps self.old.chain (encoded_all passages.now)) }
     {
         for passage in passages {
             self.step(&Block::from(passage));

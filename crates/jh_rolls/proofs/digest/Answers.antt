@@ -1,4 +1,3 @@
-use Rattle.rolls.specs.Rolls.{closed_state_of}
 use Rattle.jh_rolls.proofs.Told.{writes_jh}
 use Rattle.jh_rolls.proofs.digest.Goals as goal
 
@@ -8,5 +7,5 @@ returns g c =
     record {
       answer = e.answer;
       written = e.written;
-      jh = λ means. writes_jh g.P.Permutation.image (closed_state_of c.args.roll.now) means c.args.out.now c.digest.new.out c.digest.result e.written;
+      jh = λ means. writes_jh g.P.Permutation.image c.args.roll.now means c.args.out.now c.digest.new.out c.digest.result e.written;
     }

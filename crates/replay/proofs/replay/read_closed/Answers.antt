@@ -1,6 +1,6 @@
 use Rattle.std.proofs.Common.{ℕ, ◌-◌, ◌/◌, List, ◌++◌, drop, replicate, ◌∙◌, ap₂}
 use Rattle.daybook.specs.Daybook.{daybook}
-use Rattle.rolls.specs.Rolls.{closed_state_of, digest_length, digest_in}
+use Rattle.rolls.specs.Rolls.{digest_length, digest_in}
 use Rattle.replay.specs.declared.request.Reading.TheVariants.{Digested}
 use Rattle.replay.proofs.Rows.{wrote, digest_room, total_is}
 use Rattle.replay.proofs.replay.read_closed.Goals as goal
@@ -9,7 +9,7 @@ pub returns : goal.returns
 returns g c =
     λ p size calls h.
     let r = c.args.roll.now in
-    let s = closed_state_of r in
+    let s = r in
     let d = daybook size calls in
     let e = c.digest.ensures in
     let w = wrote c.digest.result (digest_length s) (digest_in s) (replicate 64 0) c.digest.new.out (e.answer ∙ digest_room r.contents.size) e.written in

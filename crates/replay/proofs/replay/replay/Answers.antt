@@ -7,7 +7,6 @@ use Rattle.refusals.specs.Sizes.{bits_in}
 use Rattle.daybook.specs.States.{State}
 use Rattle.daybook.specs.Course.{Came}
 use Rattle.daybook.proofs.Courses.{newly}
-use Rattle.rolls.specs.Rolls.{state_of}
 use Rattle.replay.specs.Heard.{heard}
 use Rattle.replay.specs.declared.request.Answer.{Answer}
 use Rattle.replay.proofs.Rows.{stands_blocks}
@@ -24,7 +23,7 @@ returns g c =
     let e = c.in_ok-open.ensures in
     let sized : bits_in o.contents.size ≡ size = ap (λ (x : State g.row.P.Denot). x.contents.size) e.1 in
     let start : Bytes 128 (g.P.Press.opens p size) = subst (λ (k : ℕ). Bytes 128 (g.P.Press.opens p k)) sized (g.met.P.Press.opens_chain p o.contents.size) in
-    let came : Came g.P.Press.opens g.P.Press.steps p (state_of o) size [] =
+    let came : Came g.P.Press.opens g.P.Press.steps p o size [] =
     subst (λ (x : State g.row.P.Denot). Came g.P.Press.opens g.P.Press.steps p x size []) (sym e.1) (newly g.P.Press.opens g.P.Press.steps p size start) in
     let ran = c.run-roll.ensures p size came in
     let h = heard size qs in (

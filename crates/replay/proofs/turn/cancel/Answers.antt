@@ -1,15 +1,14 @@
 use Rattle.refusals.specs.Refusals.{outcome}
 use Rattle.daybook.specs.Daybook.Call.{cancelling}
 use Rattle.daybook.proofs.Courses.{cancel_goes}
-use Rattle.rolls.specs.Rolls.{state_of}
 use Rattle.replay.specs.declared.request.Answer.TheVariants.{Done}
 use Rattle.replay.proofs.Answering.{answers_by}
 use Rattle.replay.proofs.turn.cancel.Goals as goal
 
 pub returns : goal.returns
 returns g c =
-    let s = state_of c.args.roll.now in
-    let s' = state_of c.cancel.new.self in
+    let s = c.args.roll.now in
+    let s' = c.cancel.new.self in
     let n = c.args.serial in
     let r = c.cancel.result in
     let e = c.cancel.ensures in

@@ -1,15 +1,14 @@
 use Rattle.refusals.specs.Refusals.{outcome}
 use Rattle.daybook.specs.Daybook.Call.{passing}
 use Rattle.daybook.proofs.Courses.{pass_goes}
-use Rattle.rolls.specs.Rolls.{state_of}
 use Rattle.replay.specs.declared.request.Answer.TheVariants.{Done}
 use Rattle.replay.proofs.Answering.{answers_by}
 use Rattle.replay.proofs.turn.pass.Goals as goal
 
 pub returns : goal.returns
 returns g c =
-    let s = state_of c.args.roll.now in
-    let s' = state_of c.pass.new.self in
+    let s = c.args.roll.now in
+    let s' = c.pass.new.self in
     let m = c.args.passage.now in
     let r = c.pass.result in
     let e = c.pass.ensures in

@@ -1,13 +1,12 @@
 use Rattle.std.proofs.Common.{refl}
 use Rattle.daybook.proofs.Courses.{reopen_goes}
-use Rattle.rolls.specs.Rolls.{state_of, closed_state_of}
 use Rattle.replay.proofs.turn.reopen_turn.Goals as goal
 
 pub returns : goal.returns
 returns g c =
     λ p size calls h.
-    let s = closed_state_of c.args.roll in
-    let s' = state_of c.reopen.result in
+    let s = c.args.roll in
+    let s' = c.reopen.result in
     let met = g.met.P.Press in
     record {
       stands = (

@@ -4,14 +4,13 @@ use Rattle.refusals.specs.Refusals.{buffer_refusal}
 use Rattle.daybook.specs.Contents.{contents_length}
 use Rattle.text_laws.specs.Written.{text_of}
 use Rattle.text_laws.proofs.Forth.{text_forth}
-use Rattle.rolls.specs.Rolls.{state_of}
 use Rattle.rolls.specs.Texts.{saved_of}
 use Rattle.replay.proofs.Answering.{room_write, saved_text}
 use Rattle.replay.proofs.turn.save_into.Goals as goal
 
 pub returns : goal.returns
 returns g c =
-    let s = state_of c.args.roll.now in
+    let s = c.args.roll.now in
     let bytes = c.args.bytes.now in
     let m = c.min.result - 0 in
     let e = c.save.ensures in

@@ -2,7 +2,6 @@ use Rattle.std.proofs.Common.{ℕ, Bool, cond, eqb, length, Ok, Err, sym, ap, �
 use Rattle.daybook.specs.Daybook.{daybook, saved_length}
 use Rattle.daybook.proofs.Courses.{save_goes}
 use Rattle.daybook.proofs.Notes.{length_is}
-use Rattle.rolls.specs.Rolls.{state_of}
 use Rattle.replay.specs.Heard.{Phase, opened, kept, answered}
 use Rattle.replay.specs.declared.request.Answer.TheVariants.{Wrote}
 use Rattle.replay.specs.declared.roll.SavedText.{SavedText}
@@ -12,7 +11,7 @@ use Rattle.replay.proofs.turn.save_turn.Goals as goal
 pub returns-in-Ok : goal.returns-in-Ok
 returns-in-Ok g c =
     λ p size calls h.
-    let s = state_of c.args.roll in
+    let s = c.args.roll in
     let d = daybook size calls in
     let t = c.in-Ok.text in
     let e = c.in-Ok.ensures in
@@ -25,7 +24,7 @@ returns-in-Ok g c =
 pub returns-in-Err : goal.returns-in-Err
 returns-in-Err g c =
     λ p size calls h.
-    let s = state_of c.args.roll in
+    let s = c.args.roll in
     let d = daybook size calls in
     let x = c.in-Err.refusal in
     let e = c.in-Err.ensures in

@@ -2,13 +2,12 @@ use Rattle.std.proofs.Common.{◌≡◌, ℕ, ◌-◌, min, length, take, ap, �
 use Rattle.std.proofs.lemmas.List.{length-take-le}
 use Rattle.refusals.specs.Refusals.{outcome, ship_refusal}
 use Rattle.daybook.specs.Contents.{oldest}
-use Rattle.rolls.specs.Rolls.{state_of}
 use Rattle.replay.proofs.Answering.{room_ship, shipped_block}
 use Rattle.replay.proofs.turn.ship_into.Goals as goal
 
 pub returns : goal.returns
 returns g c =
-    let k = (state_of c.args.roll.now).contents in
+    let k = c.args.roll.now.contents in
     let block = c.args.block.now in
     let m = c.min.result - 0 in
     let e = c.ship.ensures in

@@ -3,7 +3,6 @@ use Rattle.daybook.specs.States.{State}
 use Rattle.daybook.specs.Daybook.Call.{resuming}
 use Rattle.daybook.specs.Course.{Came}
 use Rattle.daybook.proofs.Courses.{resume_goes}
-use Rattle.rolls.specs.Rolls.{state_of}
 use Rattle.replay.specs.Heard.{Turn, turn_kept}
 use Rattle.replay.specs.Stands.{Turned, text_in}
 use Rattle.replay.specs.declared.request.Request.{Request}
@@ -16,9 +15,9 @@ use Rattle.replay.proofs.turn.turn_saved.Goals as goal
 pub returns-in-Resume : goal.returns-in-Resume
 returns-in-Resume g c =
     λ e p size calls h.
-    let s = state_of c.args.roll in
+    let s = c.args.roll in
     let r = c.resume_new.result in
-    let same = resumed (text_in c.args.text) (state_of c.resume_new.result) (state_of c.args.roll) c.resume_new.ensures.press c.resume_new.ensures.told e in
+    let same = resumed (text_in c.args.text) c.resume_new.result c.args.roll c.resume_new.ensures.press c.resume_new.ensures.told e in
     let on = resume_goes g.P.Press.opens g.P.Press.steps p size calls s h in
     subst (λ (q : Request). Turned g.P.Press.opens g.P.Press.steps g.P.Press.ends p size (Open r) Done (turn_kept size calls q)) (sym c.in-Resume.is)
     (record {
