@@ -1,8 +1,8 @@
 -- Lines of requests to the call program on a roll over the drill press, and the lines of their answers.
 use Rattle.std.specs.Prelude.{◌≡◌, ℕ, List, [], ◌∷◌, ◌++◌, replicate, codes}
-use Rattle.jh.specs.Compression.{size_bytes, ending_block}
-use Rattle.drill_press.specs.Drill.{stepped}
-use Rattle.sessions.specs.Courses.{Meaning, by_name}
+use Rattle.press.specs.Meaning.{Meaning}
+use Rattle.drill_press.specs.Drill.{drill}
+use Rattle.sessions.specs.Courses.{by_name}
 use Rattle.transcript.specs.Output.{output}
 
 -- a line of fields, parted by tabs
@@ -10,10 +10,6 @@ abbrev pub line : List (List ℕ) → List ℕ
 line [] = 10 ∷ []
 line (f ∷ []) = f ++ 10 ∷ []
 line (f ∷ (g ∷ fs)) = f ++ (9 ∷ line (g ∷ fs))
-
--- what the drill press means
-abbrev pub drill : Meaning
-drill = record { opens = size_bytes; steps = stepped; ends = ending_block }
 
 abbrev pub drill_requests : List ℕ
 drill_requests =

@@ -8,7 +8,8 @@ ghost use Rattle.daybook.specs.Daybook.{Call, daybook};
 ghost use Rattle.rolls.specs.Buffers.{Writes};
 ghost use Rattle.rolls.specs.Rolls.{digest_length, digest_in};
 ghost use Rattle.replay.specs.Replays.{Replays};
-ghost use Rattle.jh_rolls.specs.Jh.{opens as jh_opens, steps as jh_steps, ends as jh_ends, CameShut, jh_of, TellsJh};
+ghost use Rattle.jh_press.specs.Meaning.{jh_means};
+ghost use Rattle.jh_rolls.specs.Jh.{CameShut, jh_of, TellsJh};
 
 use jh_press::JhPress;
 use permutation::Permutation;
@@ -36,7 +37,7 @@ pub fn replay_jh<P: Permutation + Copy>(
     requests: &[Request],
     answers: &mut [Answer],
 ) -> Result<Reading, Declined<JhPress<P>>>
-    ensures told { Replays (jh_opens P.image) (jh_steps P.image) (jh_ends P.image) press size requests.now answers.old answers.new result }
+    ensures told { Replays (jh_means P.image) press size requests.now answers.old answers.new result }
     ensures jh { MeansE8 (P.image press.permutation) → IfOk result (λ x. TellsJh size requests.now x) }
 {
     replay(press, size, requests, answers)

@@ -1,5 +1,6 @@
 -- What a call answers, in the daybook's words.
 use Rattle.std.proofs.Common.{◌≡◌, ℕ, ◌≤◌, min, false, cond, eqb, List, [], ◌++◌, length, take, drop, IfOk, Ok, Err, Result, sym, refl, ap, ◌∙◌, ap₂, arith}
+use Rattle.press.specs.Meaning.{Meaning}
 use Rattle.std.proofs.lemmas.List.{append_assoc, append-nil, take_at, take_all, drop_all, length-take-le}
 use Rattle.std.proofs.lemmas.Bool.Decides.{nat_tests}
 use Rattle.refusals.specs.Refusals.{number, outcome, ship_refusal, buffer_refusal}
@@ -104,12 +105,12 @@ in_text none text bytes n m e few wide empty put =
     let w : text ≡ take n bytes = put ∙ ap₂ (λ t k. take 4700 (t ++ take k bytes)) empty e ∙ take_all 4700 (take n bytes) (omega (arith, l, few)) in
     (w, ap length w ∙ l)
 
-module _ {P : Type 0} (opens : P → ℕ → List ℕ) (steps : P → List ℕ → List ℕ → List ℕ) where
+module _ {P : Type 0} (means : P → Meaning) where
   -- a call that goes on with every course, and whose answer is the number's
   pub answers_by : (s : State P) (c : Call) (accepted : Daybook → Answer) (n : ℕ) (a : Answer) (s' : State P)
-      → GoesOn opens steps s c n s'
-      → ((p : P) (size : ℕ) (calls : List Call) → Came opens steps p s size calls → a ≡ answered n (accepted (daybook size calls)))
-      → Answers opens steps s c accepted a s'
+      → GoesOn means s c n s'
+      → ((p : P) (size : ℕ) (calls : List Call) → Came means p s size calls → a ≡ answered n (accepted (daybook size calls)))
+      → Answers means s c accepted a s'
   answers_by s c accepted n a s' goes said p size calls h =
       let on = goes p size calls h in
       (said p size calls h ∙ ap (λ (m : ℕ). answered m (accepted (daybook size calls))) on.0, on.1)

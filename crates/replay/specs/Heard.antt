@@ -1,5 +1,6 @@
 -- A row of requests, heard by the daybook alone: the calls that it comes to, and what each request is answered.
 use Rattle.std.specs.Prelude.{ℕ, ◌-◌, ◌/◌, cond, List, [], ◌∷◌, ◌++◌, length, drop, replicate, fold, ◌==◌, slice_index_or}
+use Rattle.press.specs.Meaning.{Meaning}
 use Rattle.refusals.specs.declared.refusal.Refusal.{Refusal}
 use Rattle.refusals.specs.declared.refusal.Refusal.TheVariants.{Size, Bytes, Bits, Buffer, Length, Full, Standing, Serial, Form, Price, Shipped as Gone, Unknown, Empty, Line, Values, Request as NotAllowed}
 use Rattle.daybook.specs.Daybook.{Call, Daybook, daybook, refusal, next_out, saved_length, cents_of, seal_of, closed_seal_of}
@@ -104,15 +105,15 @@ abbrev pub total_at : Daybook → Total
 total_at d = record { cents = cents_of d; count = length d.standing }
 
 -- the digest of a closed roll: the last size / 8 bytes of its chain value
-abbrev pub digest_at : (ℕ → List ℕ) → (List ℕ → List ℕ → List ℕ) → (ℕ → List ℕ) → Daybook → List ℕ
-digest_at opens steps ends d = drop (128 - d.size / 8) (closed_seal_of opens steps ends d)
+abbrev pub digest_at : Meaning → Daybook → List ℕ
+digest_at m d = drop (128 - d.size / 8) (closed_seal_of m d)
 
 -- what an open roll tells
-abbrev pub reading_open : (ℕ → List ℕ) → (List ℕ → List ℕ → List ℕ) → Daybook → Reading
-reading_open opens steps d = Sealed (total_at d) (seal_of opens steps d)
+abbrev pub reading_open : Meaning → Daybook → Reading
+reading_open m d = Sealed (total_at d) (seal_of m d)
 
 -- what a roll tells in that phase
-abbrev pub reading_at : (ℕ → List ℕ) → (List ℕ → List ℕ → List ℕ) → (ℕ → List ℕ) → Phase → Daybook → Reading
-reading_at opens steps ends opened d = reading_open opens steps d
-reading_at opens steps ends kept d = reading_open opens steps d
-reading_at opens steps ends shut d = Digested (total_at d) (digest_at opens steps ends d ++ drop (d.size / 8) (replicate 64 0))
+abbrev pub reading_at : Meaning → Phase → Daybook → Reading
+reading_at m opened d = reading_open m d
+reading_at m kept d = reading_open m d
+reading_at m shut d = Digested (total_at d) (digest_at m d ++ drop (d.size / 8) (replicate 64 0))

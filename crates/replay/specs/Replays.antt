@@ -1,5 +1,6 @@
 -- The theorem over every row of requests on a new roll.
 use Rattle.std.specs.Prelude.{◌≡◌, ℕ, cond, List, ◌++◌, length, drop, Ok, Err, Result, nat_lt}
+use Rattle.press.specs.Meaning.{Meaning}
 use Rattle.std.specs.List.{AllByRecursion}
 use Rattle.byte_strings.specs.Bytes.{Bytes}
 use Rattle.refusals.specs.Refusals.{number, size_refusal}
@@ -12,20 +13,20 @@ use Rattle.replay.specs.declared.request.Reading.{Reading}
 
 -- what was answered to a row of requests on a new roll, and what the roll then tells: all of it as the daybook says that was told
 -- the calls alone
-pub record Told (opens : ℕ → List ℕ) (steps : List ℕ → List ℕ → List ℕ) (ends : ℕ → List ℕ) (size : ℕ) (qs : List Request) (old new : List Answer) (x : Reading) : Type 0 where
+pub record Told (m : Meaning) (size : ℕ) (qs : List Request) (old new : List Answer) (x : Reading) : Type 0 where
   pub answers : new ≡ (heard size qs).answers ++ drop (length qs) old
   -- each standing passage has 64 bytes
   pub blocks : AllByRecursion (Bytes 64) (daybook size (heard size qs).calls).standing
-  pub reading : x ≡ reading_at opens steps ends (heard size qs).phase (daybook size (heard size qs).calls)
+  pub reading : x ≡ reading_at m (heard size qs).phase (daybook size (heard size qs).calls)
 
 -- the number of the refusal: fewer answers than requests, or a size that is none of the four
 abbrev pub replay_refusal : (size requests answers : ℕ) → ℕ
 replay_refusal size requests answers = cond (nat_lt answers requests) 4 (size_refusal size)
 
 -- a replay over the press p: refused, the press comes back and the answers are as they were
-abbrev pub Replays : {P : Type 0} → (P → ℕ → List ℕ) → (P → List ℕ → List ℕ → List ℕ) → (P → ℕ → List ℕ)
+abbrev pub Replays : {P : Type 0} → (P → Meaning)
     → P → ℕ → List Request → (old new : List Answer) → Result Reading (Declined P) → Type 0
-Replays opens steps ends p size qs old new (Ok x) =
-    (replay_refusal size (length qs) (length old) ≡ 0) × Told (opens p) (steps p) (ends p) size qs old new x
-Replays opens steps ends p size qs old new (Err d) =
+Replays means p size qs old new (Ok x) =
+    (replay_refusal size (length qs) (length old) ≡ 0) × Told (means p) size qs old new x
+Replays means p size qs old new (Err d) =
     (replay_refusal size (length qs) (length old) ≡ number d.refusal) × (d.press ≡ p) × (new ≡ old)

@@ -12,7 +12,7 @@ use rolls::state::{ClosedRoll, OpenRoll};
 
 // What an open roll tells.
 fn read_open<P: Press>(roll: &OpenRoll<P>) -> Reading
-    ensures { ReadsOpen P.opens P.steps roll.now result }
+    ensures { ReadsOpen P.means roll.now result }
 {
     let mut seal = [0; 128];
     let _ = roll.seal(&mut seal);
@@ -21,7 +21,7 @@ fn read_open<P: Press>(roll: &OpenRoll<P>) -> Reading
 
 // What a closed roll tells.
 fn read_closed<P: Press>(roll: &ClosedRoll<P>) -> Reading
-    ensures { ReadsClosed P.opens P.steps P.ends roll.now result }
+    ensures { ReadsClosed P.means roll.now result }
 {
     let mut digest = [0; 64];
     let _ = roll.digest(&mut digest);
@@ -30,7 +30,7 @@ fn read_closed<P: Press>(roll: &ClosedRoll<P>) -> Reading
 
 // What a roll tells.
 pub fn read<P: Press>(roll: &Roll<P>) -> Reading
-    ensures { ReadsAny P.opens P.steps P.ends roll.now result }
+    ensures { ReadsAny P.means roll.now result }
 {
     match roll {
         Roll::Open(roll) | Roll::Saved(roll, _) => read_open(roll),
@@ -41,7 +41,7 @@ pub fn read<P: Press>(roll: &Roll<P>) -> Reading
 // The requests one after the other, on a new roll.
 fn run<P: Press + Drop>(roll: OpenRoll<P>, requests: &[Request], answers: &mut [Answer]) -> Roll<P>
     requires { length requests.now ≤ length answers.old }
-    ensures { Runs P.opens P.steps P.ends roll requests.now answers.old answers.new result }
+    ensures { Runs P.means roll requests.now answers.old answers.new result }
 {
     let mut roll = Roll::Open(roll);
     for (i, request) in requests.iter().enumerate() {
@@ -61,7 +61,7 @@ pub fn replay<P: Press + Drop>(
     requests: &[Request],
     answers: &mut [Answer],
 ) -> Result<Reading, Declined<P>>
-    ensures { Replays P.opens P.steps P.ends press size requests.now answers.old answers.new result }
+    ensures { Replays P.means press size requests.now answers.old answers.new result }
 {
     if answers.len() < requests.len() {
         return Err(Declined {

@@ -47,19 +47,19 @@ fn ship_into<P: Press>(
 }
 
 fn pass<P: Press>(roll: &mut OpenRoll<P>, passage: &[u8]) -> Answer
-    ensures { Answers P.opens P.steps roll.old (passing passage.now) (λ _. Answer.Done) result roll.new }
+    ensures { Answers P.means roll.old (passing passage.now) (λ _. Answer.Done) result roll.new }
 {
     Answer::from(roll.pass(passage))
 }
 
 fn cancel<P: Press>(roll: &mut OpenRoll<P>, serial: u32) -> Answer
-    ensures { Answers P.opens P.steps roll.old (cancelling serial) (λ _. Answer.Done) result roll.new }
+    ensures { Answers P.means roll.old (cancelling serial) (λ _. Answer.Done) result roll.new }
 {
     Answer::from(roll.cancel(serial))
 }
 
 fn ship<P: Press>(roll: &mut OpenRoll<P>, room: usize) -> Answer
-    ensures { Answers P.opens P.steps roll.old (shipping room) (λ d. Answer.Shipped (next_out d)) result roll.new }
+    ensures { Answers P.means roll.old (shipping room) (λ d. Answer.Shipped (next_out d)) result roll.new }
 {
     let mut block = [0; 64];
     match ship_into(roll, room, &mut block) {
@@ -93,7 +93,7 @@ fn save<P: Press>(roll: &OpenRoll<P>, room: usize) -> Result<SavedText, Refusal>
 
 // A save, and the answer to it.
 fn save_turn<P: Press>(roll: OpenRoll<P>, room: usize) -> (Roll<P>, Answer)
-    ensures { Turns P.opens P.steps P.ends roll (λ size calls. turn_open size calls (Request.Save room)) result.0 result.1 }
+    ensures { Turns P.means roll (λ size calls. turn_open size calls (Request.Save room)) result.0 result.1 }
 {
     match save(&roll, room) {
         Ok(text) => {
@@ -127,20 +127,20 @@ fn resume_new<P: Press + Drop>(roll: OpenRoll<P>, text: &SavedText) -> OpenRoll<
 }
 
 fn close_turn<P: Press>(roll: OpenRoll<P>) -> (Roll<P>, Answer)
-    ensures { Turns P.opens P.steps P.ends roll (λ size calls. turn_open size calls Request.Close) result.0 result.1 }
+    ensures { Turns P.means roll (λ size calls. turn_open size calls Request.Close) result.0 result.1 }
 {
     (Roll::Closed(roll.close()), Answer::Done)
 }
 
 fn reopen_turn<P: Press>(roll: ClosedRoll<P>) -> (Roll<P>, Answer)
-    ensures { TurnsClosed P.opens P.steps P.ends roll (λ size calls. turn_shut size calls Request.Reopen) result.0 result.1 }
+    ensures { TurnsClosed P.means roll (λ size calls. turn_shut size calls Request.Reopen) result.0 result.1 }
 {
     (Roll::Open(roll.reopen()), Answer::Done)
 }
 
 // A request to an open roll.
 fn turn_open<P: Press>(mut roll: OpenRoll<P>, request: &Request) -> (Roll<P>, Answer)
-    ensures { Turns P.opens P.steps P.ends roll (λ size calls. turn_open size calls request.now) result.0 result.1 }
+    ensures { Turns P.means roll (λ size calls. turn_open size calls request.now) result.0 result.1 }
 {
     let answer = match request {
         Request::Close => return close_turn(roll),
@@ -162,7 +162,7 @@ fn turn_saved<P: Press + Drop>(
     text: SavedText,
     request: &Request,
 ) -> (Roll<P>, Answer)
-    ensures { read_text (text_in text) ≡ Ok (saved_of roll) → Turns P.opens P.steps P.ends roll (λ size calls. turn_kept size calls request.now) result.0 result.1 }
+    ensures { read_text (text_in text) ≡ Ok (saved_of roll) → Turns P.means roll (λ size calls. turn_kept size calls request.now) result.0 result.1 }
 {
     match request {
         Request::Resume => (Roll::Open(resume_new(roll, &text)), Answer::Done),
@@ -173,7 +173,7 @@ fn turn_saved<P: Press + Drop>(
 
 // A request to a closed roll.
 fn turn_closed<P: Press>(roll: ClosedRoll<P>, request: &Request) -> (Roll<P>, Answer)
-    ensures { TurnsClosed P.opens P.steps P.ends roll (λ size calls. turn_shut size calls request.now) result.0 result.1 }
+    ensures { TurnsClosed P.means roll (λ size calls. turn_shut size calls request.now) result.0 result.1 }
 {
     match request {
         Request::Reopen => reopen_turn(roll),
@@ -184,7 +184,7 @@ fn turn_closed<P: Press>(roll: ClosedRoll<P>, request: &Request) -> (Roll<P>, An
 // A request to a roll: the roll after it, and the answer.
 // Kept: a pair, which every caller takes apart at once; a struct would only give its parts their names again.
 pub fn turn<P: Press + Drop>(roll: Roll<P>, request: &Request) -> (Roll<P>, Answer)
-    ensures { TurnsAny P.opens P.steps P.ends roll request.now result.0 result.1 }
+    ensures { TurnsAny P.means roll request.now result.0 result.1 }
 {
     match roll {
         Roll::Open(roll) => turn_open(roll, request),

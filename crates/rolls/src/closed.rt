@@ -1,7 +1,8 @@
 // The calls on a closed roll.
-ghost use Rattle.std.specs.Prelude.{◌≡◌, length};
+ghost use Rattle.std.specs.Prelude.{◌≡◌, true, length};
 ghost use Rattle.byte_strings.specs.Bytes.{Bytes};
 ghost use Rattle.refusals.specs.Refusals.{outcome, buffer_refusal};
+ghost use Rattle.refusals.specs.Sizes.{is_size};
 ghost use Rattle.daybook.specs.Contents.{standing_count};
 ghost use Rattle.daybook.specs.States.{after_reopen};
 ghost use Rattle.roll_contents.specs.Contents.{total_of};
@@ -15,9 +16,11 @@ use roll_contents::contents::Total;
 
 impl<P: Press> ClosedRoll<P> {
     // Writes the digest, the last size / 8 bytes of the closed seal; refuses a shorter buffer.
+    #[tactic(auto, using(crate::proofs::Sizes::size_is))]
     pub fn digest(&self, out: &mut [u8]) -> Result<(), Refusal>
         ensures answer { outcome result ≡ buffer_refusal (length out.old) (digest_length self.now) }
         ensures written { Writes result (digest_length self.now) (digest_in self.now) out.old out.new }
+        ensures size { is_size self.now.contents.size ≡ true }
     {
         self.seal.write(self.contents.size().bytes(), out)
     }

@@ -1,5 +1,6 @@
 -- The answers to requests, by the daybook of the calls made so far: what stands then, and its seal made anew.
 use Rattle.std.specs.Prelude.{ℕ, cond, List, [], ◌∷◌, ◌++◌, length, Some, None, Option, ◌==◌}
+use Rattle.press.specs.Meaning.{Meaning}
 use Rattle.refusals.specs.Refusals.{size_refusal}
 use Rattle.daybook.specs.Daybook.{Daybook, Call, daybook, refusal, next_out, cents_of}
 use Rattle.daybook.specs.Daybook.Call.{passing, cancelling, shipping, closing, reopening}
@@ -11,12 +12,7 @@ use Rattle.requests.specs.declared.request.LineRequest.TheVariants.{Open, Pass, 
 use Rattle.answers.specs.Said.{Said}
 use Rattle.answers.specs.Said.Said.{done, refused, shipped, closed, total}
 
--- what a press means: its opening values, one block on, its ending blocks
-pub record Meaning : Type 0 where
-  pub opens : ℕ → List ℕ
-  pub steps : List ℕ → List ℕ → List ℕ
-  pub ends : ℕ → List ℕ
-
+-- what the press of each name means
 abbrev pub by_name : Meaning → Meaning → PressName → Meaning
 by_name jh drill Jh = jh
 by_name jh drill Drill = drill
@@ -48,7 +44,7 @@ open_says m size calls (Open name bits) = not_allowed
 open_says m size calls (Pass p) = unless (refusal (daybook size calls) (passing p)) done
 open_says m size calls (Cancel n) = unless (refusal (daybook size calls) (cancelling n)) done
 open_says m size calls Ship = unless (refusal (daybook size calls) (shipping 64)) (shipped (next_out (daybook size calls)))
-open_says m size calls Close = closed (digest_at m.opens m.steps m.ends (daybook size calls))
+open_says m size calls Close = closed (digest_at m (daybook size calls))
 open_says m size calls Reopen = not_allowed
 open_says m size calls Total = totalled (daybook size calls)
 

@@ -1,5 +1,6 @@
 -- A session that stands where the lines so far led.
 use Rattle.std.specs.Prelude.{◌≡◌, ℕ, false, List, [], Ok, Err, Option, Result}
+use Rattle.press.specs.Meaning.{Meaning}
 use Rattle.refusals.specs.Refusals.{number, size_refusal}
 use Rattle.press.specs.declared.Declined.{Declined}
 use Rattle.refusals.specs.Sizes.{bits_in}
@@ -9,45 +10,33 @@ use Rattle.requests.specs.declared.request.PressName.TheVariants.{Jh, Drill}
 use Rattle.requests.specs.declared.request.LineRequest.{LineRequest}
 use Rattle.answers.specs.Said.{said}
 use Rattle.answers.specs.declared.answer.LineAnswer.{LineAnswer}
-use Rattle.sessions.specs.Courses.{Meaning, by_name, RollCourse, Course, open_roll, closed_roll, no_roll, on, roll_says, roll_next, says, next_course, line_says, line_next}
+use Rattle.sessions.specs.Courses.{by_name, RollCourse, Course, open_roll, closed_roll, no_roll, on, roll_says, roll_next, says, next_course, line_says, line_next}
 use Rattle.sessions.specs.Told.{makes_call}
 use Rattle.sessions.specs.declared.state.SizedRoll.{SizedRoll}
 use Rattle.sessions.specs.declared.state.Session.{Session}
 use Rattle.sessions.specs.declared.state.Session.TheVariants as kinds
 
--- the functions of a kind of press
-pub record Functions (P : Type 0) : Type 0 where
-  pub opens : P → ℕ → List ℕ
-  pub steps : P → List ℕ → List ℕ → List ℕ
-  pub ends : P → ℕ → List ℕ
-
-abbrev pub functions : {P : Type 0} → (P → ℕ → List ℕ) → (P → List ℕ → List ℕ → List ℕ) → (P → ℕ → List ℕ) → Functions P
-functions opens steps ends = record { opens = opens; steps = steps; ends = ends }
-
--- what one press of that kind means
-abbrev pub meant : {P : Type 0} → Functions P → P → Meaning
-meant f p = record { opens = f.opens p; steps = f.steps p; ends = f.ends p }
-
-module _ {P : Type 0} (f : Functions P) where
+-- what each press of a kind means
+module _ {P : Type 0} (f : P → Meaning) where
   -- the roll over the press p came by that course
   abbrev pub Holds : P → SizedRoll P → RollCourse → Type 0
-  Holds p r (open_roll size calls) = (bits_in r.size ≡ size) × Stands f.opens f.steps f.ends p size r.roll opened calls
-  Holds p r (closed_roll size calls) = (bits_in r.size ≡ size) × Stands f.opens f.steps f.ends p size r.roll shut calls
+  Holds p r (open_roll size calls) = (bits_in r.size ≡ size) × Stands f p size r.roll opened calls
+  Holds p r (closed_roll size calls) = (bits_in r.size ≡ size) × Stands f p size r.roll shut calls
 
   -- a request to the roll r that makes no call was answered a: for every course by which r came, as the course says
   abbrev pub Looks : SizedRoll P → LineRequest → LineAnswer → Type 0
-  Looks r q a = makes_call q ≡ false → (p : P) (k : RollCourse) → Holds p r k → said a ≡ roll_says (meant f p) k q
+  Looks r q a = makes_call q ≡ false → (p : P) (k : RollCourse) → Holds p r k → said a ≡ roll_says (f p) k q
 
   -- a request to the roll r was answered a, and led to the roll r': for every course by which r came, as the course says
   abbrev pub Replies : SizedRoll P → LineRequest → SizedRoll P → LineAnswer → Type 0
-  Replies r q r' a = (p : P) (k : RollCourse) → Holds p r k → (said a ≡ roll_says (meant f p) k q) × Holds p r' (roll_next k q)
+  Replies r q r' a = (p : P) (k : RollCourse) → Holds p r k → (said a ≡ roll_says (f p) k q) × Holds p r' (roll_next k q)
 
   -- a roll of so many bits was opened over the press p; or refused, and the press comes back
   abbrev pub Opened : P → ℕ → Result (SizedRoll P) (Declined P) → Type 0
   Opened p bits (Ok r) = (size_refusal bits ≡ 0) × Holds p r (open_roll bits [])
   Opened p bits (Err d) = (size_refusal bits ≡ number d.refusal) × (d.press ≡ p)
 
-module _ {J D : Type 0} (f : Functions J) (g : Functions D) where
+module _ {J D : Type 0} (f : J → Meaning) (g : D → Meaning) where
   -- the session over the presses j and d came by that course
   abbrev pub CameBy : J → D → Session J D → Course → Type 0
   CameBy j d (kinds.Unopened a b) no_roll = (a ≡ j) × (b ≡ d)
@@ -62,9 +51,9 @@ module _ {J D : Type 0} (f : Functions J) (g : Functions D) where
   -- a request to the session s was answered a, and led to s'
   abbrev pub Answers : Session J D → LineRequest → Session J D → LineAnswer → Type 0
   Answers s q s' a =
-      (j : J) (d : D) (k : Course) → CameBy j d s k → (said a ≡ says (by_name (meant f j) (meant g d)) k q) × CameBy j d s' (next_course k q)
+      (j : J) (d : D) (k : Course) → CameBy j d s k → (said a ≡ says (by_name (f j) (g d)) k q) × CameBy j d s' (next_course k q)
 
   -- and a line, which may be no request
   abbrev pub GoesOn : Session J D → Option LineRequest → Session J D → LineAnswer → Type 0
   GoesOn s q s' a =
-      (j : J) (d : D) (k : Course) → CameBy j d s k → (said a ≡ line_says (by_name (meant f j) (meant g d)) k q) × CameBy j d s' (line_next k q)
+      (j : J) (d : D) (k : Course) → CameBy j d s k → (said a ≡ line_says (by_name (f j) (g d)) k q) × CameBy j d s' (line_next k q)

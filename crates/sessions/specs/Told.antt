@@ -1,5 +1,6 @@
 -- What a line tells of the answer to a call.
 use Rattle.std.specs.Prelude.{◌≡◌, ℕ, Bool, true, false, List, Some, None, Option}
+use Rattle.press.specs.Meaning.{Meaning}
 use Rattle.refusals.specs.Refusals.{number}
 use Rattle.daybook.specs.Daybook.{Call, daybook, next_out}
 use Rattle.daybook.specs.Daybook.Call.{passing, cancelling, shipping, closing, reopening}
@@ -60,10 +61,10 @@ Calls q (Some c) =
     (makes_call q ≡ true) × ((size : ℕ) (calls : List Call) → (turn_open size calls c ≡ open_turn size calls q) × (turn_shut size calls c ≡ shut_turn size calls q))
 
 -- a request to the roll r was told so, and led to the roll r': for every course by which r came, as the turn of that request
-abbrev pub Makes : {P : Type 0} → (P → ℕ → List ℕ) → (P → List ℕ → List ℕ → List ℕ) → (P → ℕ → List ℕ) → Roll P → Request → Roll P → LineAnswer → Type 0
-Makes {P = P} opens steps ends r q r' a =
-    (p : P) (size : ℕ) (f : Phase) (calls : List Call) → Stands opens steps ends p size r f calls
-    → (said a ≡ told (turn size f calls q).answer) × Stands opens steps ends p size r' (turn size f calls q).phase (turn size f calls q).calls
+abbrev pub Makes : {P : Type 0} → (P → Meaning) → Roll P → Request → Roll P → LineAnswer → Type 0
+Makes {P = P} means r q r' a =
+    (p : P) (size : ℕ) (f : Phase) (calls : List Call) → Stands means p size r f calls
+    → (said a ≡ told (turn size f calls q).answer) × Stands means p size r' (turn size f calls q).phase (turn size f calls q).calls
 
 abbrev pub is_close : LineRequest → Bool
 is_close (Open name bits) = false
@@ -75,9 +76,9 @@ is_close Reopen = false
 is_close Total = false
 
 -- the answer b, where a call was answered a and led to the roll r of so many bits: the digest after an accepted close, else a
-pub record TellsClose {P : Type 0} (opens : P → ℕ → List ℕ) (steps : P → List ℕ → List ℕ → List ℕ) (ends : P → ℕ → List ℕ)
+pub record TellsClose {P : Type 0} (means : P → Meaning)
     (q : LineRequest) (a : LineAnswer) (bits : ℕ) (r : Roll P) (b : LineAnswer) : Type 0 where
   pub other : is_close q ≡ false → b ≡ a
   pub skipped : said a ≡ not_allowed → b ≡ a
-  pub digest : is_close q ≡ true → said a ≡ done → (p : P) (calls : List Call) → Stands opens steps ends p bits r shut calls
-      → said b ≡ closed (digest_at (opens p) (steps p) (ends p) (daybook bits calls))
+  pub digest : is_close q ≡ true → said a ≡ done → (p : P) (calls : List Call) → Stands means p bits r shut calls
+      → said b ≡ closed (digest_at (means p) (daybook bits calls))

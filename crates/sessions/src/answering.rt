@@ -32,7 +32,7 @@ pub(crate) fn line_answer(answer: Answer) -> LineAnswer
 
 // The total of a roll.
 pub(crate) fn total<P: Press>(roll: &Roll<P>) -> LineAnswer
-    ensures { (p : P) (size : ℕ) (f : Phase) (calls : List Call) → Stands P.opens P.steps P.ends p size roll.now f calls → said result ≡ totalled (daybook size calls) }
+    ensures { (p : P) (size : ℕ) (f : Phase) (calls : List Call) → Stands P.means p size roll.now f calls → said result ≡ totalled (daybook size calls) }
 {
     match read(roll) {
         Reading::Sealed(total, _) | Reading::Digested(total, _) => {
@@ -43,7 +43,7 @@ pub(crate) fn total<P: Press>(roll: &Roll<P>) -> LineAnswer
 
 // The digest of a closed roll of that size.
 pub(crate) fn digest<P: Press>(size: DigestSize, roll: &Roll<P>) -> LineAnswer
-    ensures { (p : P) (calls : List Call) → Stands P.opens P.steps P.ends p (bits_in size) roll.now shut calls → said result ≡ closed (digest_at (P.opens p) (P.steps p) (P.ends p) (daybook (bits_in size) calls)) }
+    ensures { (p : P) (calls : List Call) → Stands P.means p (bits_in size) roll.now shut calls → said result ≡ closed (digest_at (P.means p) (daybook (bits_in size) calls)) }
 {
     match read(roll) {
         Reading::Sealed(_, _) => LineAnswer::Refused(Refusal::Request),

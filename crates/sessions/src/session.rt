@@ -4,7 +4,7 @@ ghost use Rattle.refusals.specs.Refusals.{number};
 ghost use Rattle.answers.specs.Said.{said};
 ghost use Rattle.answers.specs.Said.Said.{done, refused};
 ghost use Rattle.requests.specs.Requests.{request_of};
-ghost use Rattle.sessions.specs.Sessions.{functions, Opened, Answers, GoesOn};
+ghost use Rattle.sessions.specs.Sessions.{Opened, Answers, GoesOn};
 
 use crate::sized::reply;
 use crate::state::{Session, SizedRoll};
@@ -18,7 +18,7 @@ use rolls::state::OpenRoll;
 
 // Opens a roll of so many bits; a refusal hands the press back.
 fn open<P: Press>(press: P, bits: u64) -> Result<SizedRoll<P>, Declined<P>>
-    ensures { Opened (functions P.opens P.steps P.ends) press bits result }
+    ensures { Opened P.means press bits result }
 {
     let Ok(size) = u32::try_from(bits) else {
         return Err(Declined {
@@ -41,7 +41,7 @@ fn begin<P: Press, S, F: FnOnce(Result<SizedRoll<P>, P>) -> S>(
     session: F,
 ) -> (S, LineAnswer)
     requires { F.IsAlwaysCallable session }
-    ensures { (r : _) × Opened (functions P.opens P.steps P.ends) press bits r × MatchResult r (λ roll. F.post session (Ok roll) result.0 × (said result.1 ≡ done)) (λ d. F.post session (Err d.press) result.0 × (said result.1 ≡ refused (number d.refusal))) }
+    ensures { (r : _) × Opened P.means press bits r × MatchResult r (λ roll. F.post session (Ok roll) result.0 × (said result.1 ≡ done)) (λ d. F.post session (Err d.press) result.0 × (said result.1 ≡ refused (number d.refusal))) }
 {
     match open(press, bits) {
         Ok(roll) => (session(Ok(roll)), LineAnswer::Done),
@@ -55,7 +55,7 @@ fn first<J: Press + Drop, D: Press + Drop>(
     drill: D,
     request: &LineRequest,
 ) -> (Session<J, D>, LineAnswer)
-    ensures { Answers (functions J.opens J.steps J.ends) (functions D.opens D.steps D.ends) (Session.Unopened jh drill) request.now result.0 result.1 }
+    ensures { Answers J.means D.means (Session.Unopened jh drill) request.now result.0 result.1 }
 {
     match request {
         LineRequest::Open(PressName::Jh, bits) => begin(jh, *bits, |opened| match opened {
@@ -78,7 +78,7 @@ fn request<J: Press + Drop, D: Press + Drop>(
     session: Session<J, D>,
     request: &LineRequest,
 ) -> (Session<J, D>, LineAnswer)
-    ensures { Answers (functions J.opens J.steps J.ends) (functions D.opens D.steps D.ends) session request.now result.0 result.1 }
+    ensures { Answers J.means D.means session request.now result.0 result.1 }
 {
     // Kept: a function for both arms would take the variant, whose type names the other press too; the borrow checker has no
     // proof of such a call.
@@ -101,7 +101,7 @@ pub fn answer<J: Press + Drop, D: Press + Drop>(
     session: Session<J, D>,
     line: &[u8],
 ) -> (Session<J, D>, LineAnswer)
-    ensures { GoesOn (functions J.opens J.steps J.ends) (functions D.opens D.steps D.ends) session (request_of line.now) result.0 result.1 }
+    ensures { GoesOn J.means D.means session (request_of line.now) result.0 result.1 }
 {
     match read(line) {
         Some(asked) => request(session, &asked),

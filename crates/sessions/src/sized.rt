@@ -3,7 +3,7 @@ ghost use Rattle.std.specs.Prelude.{◌≡◌, ℕ, List};
 ghost use Rattle.refusals.specs.Sizes.{bits_in};
 ghost use Rattle.daybook.specs.Daybook.{Call};
 ghost use Rattle.replay.specs.Heard.{Phase};
-ghost use Rattle.sessions.specs.Sessions.{functions, Looks, Replies};
+ghost use Rattle.sessions.specs.Sessions.{Looks, Replies};
 ghost use Rattle.sessions.specs.Told.{Calls, Makes, TellsClose};
 
 use crate::answering::{digest, line_answer, total};
@@ -34,7 +34,7 @@ fn call_of<'a>(request: &'a LineRequest) -> Option<Request<'a>>
 // Makes a call on the roll.
 fn make<P: Press + Drop>(sized: SizedRoll<P>, request: Request) -> (SizedRoll<P>, LineAnswer)
     ensures size { result.0.size ≡ sized.size }
-    ensures turn { Makes P.opens P.steps P.ends sized.roll request.entry result.0.roll result.1 }
+    ensures turn { Makes P.means sized.roll request.entry result.0.roll result.1 }
 {
     let SizedRoll { size, roll } = sized;
     let (roll, answer) = turn(roll, &request);
@@ -43,7 +43,7 @@ fn make<P: Press + Drop>(sized: SizedRoll<P>, request: Request) -> (SizedRoll<P>
 
 // The answer to a request, after its call: for an accepted close the digest of the roll, which is closed now.
 fn tell<P: Press>(request: &LineRequest, answer: LineAnswer, sized: &SizedRoll<P>) -> LineAnswer
-    ensures { TellsClose P.opens P.steps P.ends request.now answer (bits_in sized.now.size) sized.now.roll result }
+    ensures { TellsClose P.means request.now answer (bits_in sized.now.size) sized.now.roll result }
 {
     match (request, answer) {
         (LineRequest::Close, LineAnswer::Done) => digest(sized.size, &sized.roll),
@@ -53,7 +53,7 @@ fn tell<P: Press>(request: &LineRequest, answer: LineAnswer, sized: &SizedRoll<P
 
 // A request that makes no call: a total, or an open while a roll is open.
 fn look<P: Press>(sized: &SizedRoll<P>, request: &LineRequest) -> LineAnswer
-    ensures { Looks (functions P.opens P.steps P.ends) sized.now request.now result }
+    ensures { Looks P.means sized.now request.now result }
 {
     match request {
         LineRequest::Total => total(&sized.roll),
@@ -66,7 +66,7 @@ pub(crate) fn reply<P: Press + Drop>(
     sized: SizedRoll<P>,
     request: &LineRequest,
 ) -> (SizedRoll<P>, LineAnswer)
-    ensures { Replies (functions P.opens P.steps P.ends) sized request.now result.0 result.1 }
+    ensures { Replies P.means sized request.now result.0 result.1 }
 {
     let Some(call) = call_of(request) else {
         let answer = look(&sized, request);

@@ -1,5 +1,6 @@
 -- Part of a text is answered.
 use Rattle.std.proofs.Common.{◌≡◌, ℕ, ◌+◌, ◌<◌, ◌≤◌, List, [], ◌++◌, length, take, Some, None, Ok, Err, is_err, true, false, vec_items, vec_capacity, Result, Vec, sym, refl, ap, ◌∙◌, append_assoc, append-nil, arith, length-append}
+use Rattle.press.specs.Meaning.{Meaning}
 use Rattle.std.proofs.lemmas.List.{take_at}
 use Rattle.std.specs.declared.alloc.AllocError.{AllocError}
 use Rattle.std.specs.declared.alloc.Global.{Global}
@@ -8,7 +9,7 @@ use Rattle.requests.specs.Requests.{request_of}
 use Rattle.answers.specs.Said.{said, line_of}
 use Rattle.answers.specs.declared.answer.LineAnswer.{LineAnswer}
 use Rattle.sessions.specs.Courses.{Course, by_name, line_next, not_allowed}
-use Rattle.sessions.specs.Sessions.{Functions, meant, CameBy, GoesOn}
+use Rattle.sessions.specs.Sessions.{CameBy, GoesOn}
 use Rattle.sessions.specs.declared.state.Session.{Session}
 use Rattle.transcript.specs.Output.{requests, answers_on, Added, Fronted}
 use Rattle.transcript.proofs.Lines.{first_request, no_request, part_request}
@@ -24,9 +25,9 @@ pub stays : (r : Result (Unit {0}) AllocError) (v w : Vec ℕ Global) (t : List 
 stays (Ok u) v w t e h = h
 stays (Err x) v w t e h = cc
 
-module _ {J D : Type 0} (f : Functions J) (g : Functions D) where
+module _ {J D : Type 0} (f : J → Meaning) (g : D → Meaning) where
   abbrev all_answers : J → D → Course → List ℕ → List ℕ
-  all_answers j d k t = answers_on (by_name (meant f j) (meant g d)) k (requests t)
+  all_answers j d k t = answers_on (by_name (f j) (g d)) k (requests t)
 
   -- a session that came by k, and whose text was t, stands at s now, with the text u left: the bytes ys were added to v, which is w now
   pub record At (j : J) (d : D) (k : Course) (t : List ℕ) (v : Vec ℕ Global) (s : Session J D) (u : List ℕ) (w : Vec ℕ Global) : Type 0 where
@@ -52,7 +53,7 @@ module _ {J D : Type 0} (f : Functions J) (g : Functions D) where
         let at = came j d k h in
         let c = at.course in
         let x = go j d at.course at.came in
-        let m = by_name (meant f j) (meant g d) in
+        let m = by_name (f j) (g d) in
         let b1 = at.room in
         let b2 = put.1 in
         record {
@@ -75,7 +76,7 @@ module _ {J D : Type 0} (f : Functions J) (g : Functions D) where
         let at = came j d k h in
         let c = at.course in
         let x = go j d at.course at.came in
-        let m = by_name (meant f j) (meant g d) in
+        let m = by_name (f j) (g d) in
         let rest = all_answers j d (line_next at.course (request_of l)) r in
         let whole : at.added ++ (line_of (said a) ++ rest) ≡ all_answers j d k t =
         ap (λ y. at.added ++ (line_of y ++ rest)) x.0 ∙ ap (λ qs. at.added ++ answers_on m c qs) (sym (first_request u l r e)) ∙ at.left in
@@ -90,7 +91,7 @@ module _ {J D : Type 0} (f : Functions J) (g : Functions D) where
     pub ends : cut_at 10 u ≡ None → length u ≡ 0 → (j : J) (d : D) (k : Course) → CameBy f g j d s0 k → (vec_items w ≡ vec_items v ++ all_answers j d k t) × (vec_capacity v ≤ vec_capacity w)
     ends e z j d k h =
         let at = came j d k h in
-        let m = by_name (meant f j) (meant g d) in
+        let m = by_name (f j) (g d) in
         let all : at.added ≡ all_answers j d k t = sym (append-nil at.added) ∙ ap (λ qs. at.added ++ answers_on m at.course qs) (sym (no_request u e z)) ∙ at.left in
         (at.items ∙ ap (λ y. vec_items v ++ y) all, at.room)
 
@@ -98,7 +99,7 @@ module _ {J D : Type 0} (f : Functions J) (g : Functions D) where
     whole : (e : cut_at 10 u ≡ None) (z : length u ≡ 0 → ⊥) (j : J) (d : D) (k : Course) (h : CameBy f g j d s0 k) → (came j d k h).added ++ line_of not_allowed ≡ all_answers j d k t
     whole e z j d k h =
         let at = came j d k h in
-        let m = by_name (meant f j) (meant g d) in
+        let m = by_name (f j) (g d) in
         ap (λ y. at.added ++ y) (sym (append-nil (line_of not_allowed))) ∙ ap (λ qs. at.added ++ answers_on m at.course qs) (sym (part_request u e z)) ∙ at.left
 
     pub last : (r : Result (Unit {0}) AllocError) (w' : Vec ℕ Global) → cut_at 10 u ≡ None → (length u ≡ 0 → ⊥) → Added r w w' (line_of not_allowed)

@@ -1,13 +1,14 @@
 -- The answers to a text of requests.
 use Rattle.std.specs.Prelude.{◌≡◌, ℕ, ◌+◌, ◌<◌, ◌≤◌, cond, List, [], ◌∷◌, ◌++◌, length, take, None, Ok, Err, vec_items, vec_capacity, Option, Result, Vec, ◌==◌}
+use Rattle.press.specs.Meaning.{Meaning}
 use Rattle.std.specs.declared.alloc.AllocError.{AllocError}
 use Rattle.std.specs.declared.alloc.Global.{Global}
 use Rattle.requests.specs.declared.request.PressName.{PressName}
 use Rattle.requests.specs.declared.request.LineRequest.{LineRequest}
 use Rattle.requests.specs.Requests.{request_of}
 use Rattle.answers.specs.Said.{line_of}
-use Rattle.sessions.specs.Courses.{Meaning, by_name, Course, no_roll, line_says, line_next}
-use Rattle.sessions.specs.Sessions.{Functions, meant, CameBy}
+use Rattle.sessions.specs.Courses.{by_name, Course, no_roll, line_says, line_next}
+use Rattle.sessions.specs.Sessions.{CameBy}
 use Rattle.sessions.specs.declared.state.Session.{Session}
 
 -- the requests of the lines of a text, with l before it on its first line; a last part without a line feed is no request
@@ -38,6 +39,6 @@ Fronted (Ok u) v w t = (vec_items w ≡ vec_items v ++ t) × (vec_capacity v ≤
 Fronted (Err e) v w t = (take (length (vec_items v)) (vec_items w) ≡ vec_items v) × (vec_capacity v < length (vec_items v) + length t)
 
 -- the lines of the text t on a session, with their answers added to v, which is w now: for every course by which the session came
-abbrev pub Runs : {J D : Type 0} → Functions J → Functions D → Session J D → List ℕ → Vec ℕ Global → Vec ℕ Global → Result (Unit {0}) AllocError → Type 0
+abbrev pub Runs : {J D : Type 0} → (J → Meaning) → (D → Meaning) → Session J D → List ℕ → Vec ℕ Global → Vec ℕ Global → Result (Unit {0}) AllocError → Type 0
 Runs {J = J} {D = D} f g s t v w r =
-    (j : J) (d : D) (k : Course) → CameBy f g j d s k → Fronted r v w (answers_on (by_name (meant f j) (meant g d)) k (requests t))
+    (j : J) (d : D) (k : Course) → CameBy f g j d s k → Fronted r v w (answers_on (by_name (f j) (g d)) k (requests t))

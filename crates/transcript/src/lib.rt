@@ -4,7 +4,6 @@
 ghost use Rattle.std.specs.Prelude.{◌≡◌, List};
 ghost use Rattle.answers.specs.Said.{said, line_of};
 ghost use Rattle.sessions.specs.Courses.{by_name};
-ghost use Rattle.sessions.specs.Sessions.{functions, meant};
 ghost use Rattle.transcript.specs.Output.{output, Added, Runs};
 
 use answers::answer::LineAnswer;
@@ -31,7 +30,7 @@ fn run<J: Press + Drop, D: Press + Drop>(
     text: &[u8],
     out: &mut Vec<u8>,
 ) -> Result<(), AllocError>
-    ensures { Runs (functions J.opens J.steps J.ends) (functions D.opens D.steps D.ends) session text.now out.old out.new result }
+    ensures { Runs J.means D.means session text.now out.old out.new result }
 {
     let mut session = session;
     let mut rest = text;
@@ -56,7 +55,7 @@ pub fn transcribe<J: Press + Drop, D: Press + Drop>(
     text: &[u8],
     out: &mut Vec<u8>,
 ) -> Result<(), AllocError>
-    ensures { Added result out.old out.new (output (by_name (meant (functions J.opens J.steps J.ends) jh) (meant (functions D.opens D.steps D.ends) drill)) text.now) }
+    ensures { Added result out.old out.new (output (by_name (J.means jh) (D.means drill)) text.now) }
 {
     let old = out.len();
     let read = &text[..MOST_READ.min(text.len())];

@@ -1,14 +1,13 @@
 use Rattle.std.proofs.Common.{◌≡◌, List, ℕ, take, vec_items, refl, sym, ap, ◌∙◌, subst}
 use Rattle.std.proofs.lemmas.List.{take_min}
 use Rattle.sessions.specs.Courses.{by_name, no_roll}
-use Rattle.sessions.specs.Sessions.{functions, meant}
 use Rattle.transcript.specs.Output.{answers_on, requests, Fronted}
 use Rattle.transcript.proofs.Progress.{cut_back, stays}
 use Rattle.transcript.proofs.transcribe.Goals as goal
 
 pub returns-then-is_err : goal.returns-then-is_err
 returns-then-is_err g c =
-    let m = by_name (meant (functions g.J.Press.opens g.J.Press.steps g.J.Press.ends) c.args.jh) (meant (functions g.D.Press.opens g.D.Press.steps g.D.Press.ends) c.args.drill) in
+    let m = by_name (g.J.Press.means c.args.jh) (g.D.Press.means c.args.drill) in
     let v = c.args.out.now in
     let r = c.run-result in
     let part : take c.min.result c.args.text.now ≡ take 65536 c.args.text.now = ap (λ k. take k c.args.text.now) c.min.ensures ∙ take_min 65536 c.args.text.now in
@@ -18,7 +17,7 @@ returns-then-is_err g c =
 
 pub returns-else-is_err : goal.returns-else-is_err
 returns-else-is_err g c =
-    let m = by_name (meant (functions g.J.Press.opens g.J.Press.steps g.J.Press.ends) c.args.jh) (meant (functions g.D.Press.opens g.D.Press.steps g.D.Press.ends) c.args.drill) in
+    let m = by_name (g.J.Press.means c.args.jh) (g.D.Press.means c.args.drill) in
     let r = c.run-result in
     let part : take c.min.result c.args.text.now ≡ take 65536 c.args.text.now = ap (λ k. take k c.args.text.now) c.min.ensures ∙ take_min 65536 c.args.text.now in
     stays r.result c.args.out.now r.new.out (answers_on m no_roll (requests (take 65536 c.args.text.now))) (sym c.is_err.ensures.value ∙ c.if-is_err.false)

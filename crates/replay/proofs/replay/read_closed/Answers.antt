@@ -8,10 +8,9 @@ use Rattle.replay.proofs.replay.read_closed.Goals as goal
 pub returns : goal.returns
 returns g c =
     λ p size calls h.
-    let r = c.args.roll.now in
-    let s = r in
+    let s = c.args.roll.now in
     let d = daybook size calls in
     let e = c.digest.ensures in
-    let w = wrote c.digest.result (digest_length s) (digest_in s) (replicate 64 0) c.digest.new.out (e.answer ∙ digest_room r.contents.size) e.written in
+    let w = wrote c.digest.result (digest_length s) (digest_in s) (replicate 64 0) c.digest.new.out (e.answer ∙ digest_room s.contents.size e.size) e.written in
     ap₂ Digested (c.total.ensures ∙ total_is s.contents d h.keeps)
     (w ∙ ap₂ (λ (n : ℕ) (x : List ℕ). drop (128 - n / 8) x ++ drop (n / 8) (replicate 64 0)) h.keeps.size h.sealed)

@@ -12,7 +12,7 @@ loop-i-preserved g c =
     λ p size h.
     let d : Request = Close in
     let w = c.turn-next in
-    ran_more g.P.Press.opens g.P.Press.steps g.P.Press.ends p size c.loop-i.roll w.result.0 c.args.answers.now c.loop-i.answers w.result.1
+    ran_more g.P.Press.means p size c.loop-i.roll w.result.0 c.args.answers.now c.loop-i.answers w.result.1
     c.args.requests.now c.loop-i.i d (omega arith) (omega arith) (c.loop-i.invariant p size h) (w.ensures p size)
 
 pub returns : goal.returns
@@ -21,6 +21,6 @@ returns g c =
     let qs = c.args.requests.now in
     let n : c.loop-i.i ≡ length qs = omega arith in
     let e : take c.loop-i.i qs ≡ qs = take_all c.loop-i.i qs (omega arith) in
-    subst (λ (k : ℕ). Ran g.P.Press.opens g.P.Press.steps g.P.Press.ends p size c.loop-i.roll c.args.answers.now c.loop-i.answers (heard size qs) k) n
-    (subst (λ (xs : List Request). Ran g.P.Press.opens g.P.Press.steps g.P.Press.ends p size c.loop-i.roll c.args.answers.now c.loop-i.answers (heard size xs) c.loop-i.i) e
+    subst (λ (k : ℕ). Ran g.P.Press.means p size c.loop-i.roll c.args.answers.now c.loop-i.answers (heard size qs) k) n
+    (subst (λ (xs : List Request). Ran g.P.Press.means p size c.loop-i.roll c.args.answers.now c.loop-i.answers (heard size xs) c.loop-i.i) e
     (c.loop-i.invariant p size (refl, h)))

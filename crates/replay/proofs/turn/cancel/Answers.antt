@@ -13,5 +13,5 @@ returns g c =
     let r = c.cancel.result in
     let e = c.cancel.ensures in
     let met = g.met.P.Press in
-    answers_by g.P.Press.opens g.P.Press.steps s (cancelling n) (λ d. Done) (outcome r) c.from.result s'
-    (cancel_goes g.P.Press.opens g.P.Press.steps met.steps_chain g.P.Press.backs met.back_of_step n s r s' e.answer e.after) (λ p size calls h. c.from.ensures)
+    answers_by g.P.Press.means s (cancelling n) (λ d. Done) (outcome r) c.from.result s'
+    (cancel_goes g.P.Press.means met.steps_chain g.P.Press.backs met.back_of_step n s r s' e.answer e.after) (λ p size calls h. c.from.ensures)

@@ -8,6 +8,6 @@ returns g c =
     let s = c.args.roll in
     let s' = c.close.result in
     record {
-      stands = (refl, close_goes g.P.Press.opens g.P.Press.steps g.P.Press.ends p size calls s s' c.close.ensures h);
+      stands = (refl, close_goes g.P.Press.means p size calls s s' c.close.ensures h);
       answer = refl;
     }

@@ -12,5 +12,5 @@ returns g c =
     let m = c.args.passage.now in
     let r = c.pass.result in
     let e = c.pass.ensures in
-    answers_by g.P.Press.opens g.P.Press.steps s (passing m) (λ d. Done) (outcome r) c.from.result s'
-    (pass_goes g.P.Press.opens g.P.Press.steps m s r s' e.answer e.block e.after) (λ p size calls h. c.from.ensures)
+    answers_by g.P.Press.means s (passing m) (λ d. Done) (outcome r) c.from.result s'
+    (pass_goes g.P.Press.means m s r s' e.answer e.block e.after) (λ p size calls h. c.from.ensures)

@@ -11,8 +11,7 @@ returns g c =
     record {
       stands = (
         refl,
-        reopen_goes g.P.Press.opens g.P.Press.steps met.steps_chain g.P.Press.backs met.back_of_step g.P.Press.ends
-            p size calls s s' c.reopen.ensures.block c.reopen.ensures.after h,
+        reopen_goes g.P.Press.means met.steps_chain g.P.Press.backs met.back_of_step p size calls s s' c.reopen.ensures.block c.reopen.ensures.after h,
       );
       answer = refl;
     }

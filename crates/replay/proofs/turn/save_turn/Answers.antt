@@ -15,7 +15,7 @@ returns-in-Ok g c =
     let d = daybook size calls in
     let t = c.in-Ok.text in
     let e = c.in-Ok.ensures in
-    let on = save_goes g.P.Press.opens g.P.Press.steps {X = SavedText} c.args.room s (Ok t) e.answer p size calls h in
+    let on = save_goes g.P.Press.means {X = SavedText} c.args.room s (Ok t) e.answer p size calls h in
     record {
       stands = (ap (λ (n : ℕ). let f : Phase = cond (eqb n 0) kept opened in f) (sym on.0), on.1, e.text.0);
       answer = ap Wrote (ap length c.as_slice-len.ensures ∙ e.text.1 ∙ length_is s.contents d h.keeps) ∙ ap (λ (n : ℕ). answered n (Wrote (saved_length d))) on.0;
@@ -28,7 +28,7 @@ returns-in-Err g c =
     let d = daybook size calls in
     let x = c.in-Err.refusal in
     let e = c.in-Err.ensures in
-    let on = save_goes g.P.Press.opens g.P.Press.steps {X = SavedText} c.args.room s (Err x) e.answer p size calls h in
+    let on = save_goes g.P.Press.means {X = SavedText} c.args.room s (Err x) e.answer p size calls h in
     record {
       stands = (ap (λ (n : ℕ). let f : Phase = cond (eqb n 0) kept opened in f) (sym on.0) ∙ ap (λ (b : Bool). let f : Phase = cond b kept opened in f) (not_zero x), on.1);
       answer = told_refusal x (Wrote (saved_length d)) ∙ ap (λ (n : ℕ). answered n (Wrote (saved_length d))) on.0;

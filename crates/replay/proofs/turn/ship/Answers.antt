@@ -12,6 +12,6 @@ returns-in-Ok g c =
     let s = c.args.roll.now in
     let s' = c.ship_into.new.roll in
     let e = c.in-Ok.ensures in
-    answers_by g.P.Press.opens g.P.Press.steps s (shipping c.args.room) (λ d. Shipped (next_out d)) 0 (Shipped c.ship_into.new.block) s'
-    (ship_goes g.P.Press.opens g.P.Press.steps c.args.room s (Ok tt) s' e.answer e.after)
+    answers_by g.P.Press.means s (shipping c.args.room) (λ d. Shipped (next_out d)) 0 (Shipped c.ship_into.new.block) s'
+    (ship_goes g.P.Press.means c.args.room s (Ok tt) s' e.answer e.after)
     (λ p size calls h. ap Shipped (e.written ∙ oldest_is s.contents (daybook size calls) h.keeps))

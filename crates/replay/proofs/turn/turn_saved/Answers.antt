@@ -18,10 +18,10 @@ returns-in-Resume g c =
     let s = c.args.roll in
     let r = c.resume_new.result in
     let same = resumed (text_in c.args.text) c.resume_new.result c.args.roll c.resume_new.ensures.press c.resume_new.ensures.told e in
-    let on = resume_goes g.P.Press.opens g.P.Press.steps p size calls s h in
-    subst (λ (q : Request). Turned g.P.Press.opens g.P.Press.steps g.P.Press.ends p size (Open r) Done (turn_kept size calls q)) (sym c.in-Resume.is)
+    let on = resume_goes g.P.Press.means p size calls s h in
+    subst (λ (q : Request). Turned g.P.Press.means p size (Open r) Done (turn_kept size calls q)) (sym c.in-Resume.is)
     (record {
-      stands = (refl, subst (λ (x : State g.row.P.Denot). Came g.P.Press.opens g.P.Press.steps p x size (calls ++ resuming ∷ [])) (sym same) on);
+      stands = (refl, subst (λ (x : State g.row.P.Denot). Came g.P.Press.means p x size (calls ++ resuming ∷ [])) (sym same) on);
       answer = refl;
     })
 
@@ -29,5 +29,5 @@ pub returns-in_default : goal.returns-in_default
 returns-in_default g c =
     λ e p size calls h.
     let w = c.turn_open in
-    subst (λ (t : Turn). Turned g.P.Press.opens g.P.Press.steps g.P.Press.ends p size w.result.0 w.result.1 t)
+    subst (λ (t : Turn). Turned g.P.Press.means p size w.result.0 w.result.1 t)
     (sym (kept_else size calls c.args.request.now c.in_default.not-Resume c.in_default.not-Reopen)) (w.ensures p size calls h)

@@ -15,5 +15,5 @@ returns-in-Digested g c = λ p calls stands.
     let n = size_kept (unwritten size) calls in
     let l : length c.in-Digested.digest ≡ 64 = search rules in
     let e = ap digest_in (c.in-Digested.ensures p size shut calls stands) in
-    ap (λ t. closed t) (front (size / 8) c.in-Digested.digest (digest_at (g.P.Press.opens p) (g.P.Press.steps p) (g.P.Press.ends p) d) (digest_short c.args.size) l
-    (e ∙ ap (λ k. digest_at (g.P.Press.opens p) (g.P.Press.steps p) (g.P.Press.ends p) d ++ drop (k / 8) (replicate 64 0)) n))
+    ap (λ t. closed t) (front (size / 8) c.in-Digested.digest (digest_at (g.P.Press.means p) d) (digest_short c.args.size) l
+    (e ∙ ap (λ k. digest_at (g.P.Press.means p) d ++ drop (k / 8) (replicate 64 0)) n))
