@@ -1,3 +1,3 @@
 pub mod Pairs
-pub mod Written
 pub mod Texts
+pub mod Numerals

@@ -1,26 +1,29 @@
--- Lists of digits, two at a time.
-use Rattle.std.proofs.Common.{◌≡◌, ℕ, ◌+◌, ◌*◌, ◌<◌, true, List, [], ◌∷◌, ◌++◌, length, get_or, take, drop, set, sym, ap, ◌∙◌, append_assoc, arith}
-use Rattle.std.proofs.lemmas.List.{drop_more, take_more_set}
+-- Digits, two at a time.
+use Rattle.std.proofs.Common.{◌≡◌, ℕ, zero, suc, ◌+◌, ◌*◌, Bool, true, ◌&&◌, List, [], ◌∷◌, length, get_or, map, refl, ap, arith}
+use Rattle.std.specs.List.{list_all}
+use Rattle.std.specs.Simd.{first_chunks}
 use Rattle.std.proofs.lemmas.Bool.{and_parts}
 use Rattle.fields.specs.Hex.{is_hex_digit, all_hex, nibble, bytes_of}
 
-pub drop_two : (xs : List ℕ) (i : ℕ) → 2 * i + 1 < length xs → drop (2 * i) xs ≡ get_or xs (2 * i) 0 ∷ (get_or xs (2 * i + 1) 0 ∷ drop (2 * (i + 1)) xs)
-drop_two xs i h =
-    let e : 2 * i + 1 + 1 ≡ 2 * (i + 1) = omega arith in
-    drop_more xs (2 * i) 0 (omega arith)
-    ∙ ap (λ t. get_or xs (2 * i) 0 ∷ t) (drop_more xs (2 * i + 1) 0 h ∙ ap (λ n. get_or xs (2 * i + 1) 0 ∷ drop n xs) e)
+-- the byte that two digits write
+abbrev pub pair_byte : List ℕ → ℕ
+pair_byte p = 16 * nibble (get_or p 0 0) + nibble (get_or p 1 0)
 
-pub hex_two : (xs : List ℕ) (i : ℕ) → 2 * i + 1 < length xs → all_hex (drop (2 * i) xs) ≡ true
-    → (is_hex_digit (get_or xs (2 * i) 0) ≡ true) × (is_hex_digit (get_or xs (2 * i + 1) 0) ≡ true) × (all_hex (drop (2 * (i + 1)) xs) ≡ true)
-hex_two xs i h all =
-    let both = and_parts _ _ (sym (ap all_hex (drop_two xs i h)) ∙ all) in
-    let more = and_parts _ _ both.1 in
-    (both.0, more.0, more.1)
+abbrev pub pair_is_hex : List ℕ → Bool
+pair_is_hex p = is_hex_digit (get_or p 0 0) && is_hex_digit (get_or p 1 0)
 
-pub bytes_two : (out xs : List ℕ) (i v : ℕ) → i < length out → 2 * i + 1 < length xs → v ≡ 16 * nibble (get_or xs (2 * i) 0) + nibble (get_or xs (2 * i + 1) 0)
-    → take (i + 1) (set out i v) ++ bytes_of (drop (2 * (i + 1)) xs) ≡ take i out ++ bytes_of (drop (2 * i) xs)
-bytes_two out xs i v o h e =
-    ap (λ t. t ++ bytes_of (drop (2 * (i + 1)) xs)) (take_more_set out i v o)
-    ∙ append_assoc (take i out) (v ∷ []) (bytes_of (drop (2 * (i + 1)) xs))
-    ∙ ap (λ n. take i out ++ (n ∷ bytes_of (drop (2 * (i + 1)) xs))) e
-    ∙ ap (λ t. take i out ++ bytes_of t) (sym (drop_two xs i h))
+pub bytes_of_pairs : (k : ℕ) (xs : List ℕ) → length xs ≡ 2 * k → map pair_byte (first_chunks 2 k xs) ≡ bytes_of xs
+bytes_of_pairs zero [] h = refl
+bytes_of_pairs zero (x ∷ xs) h = absurd (omega (arith, h))
+bytes_of_pairs (suc k) [] h = absurd (omega (arith, h))
+bytes_of_pairs (suc k) (x ∷ []) h = absurd (omega (arith, h))
+bytes_of_pairs (suc k) (x ∷ (y ∷ xs)) h = ap (λ t. pair_byte (x ∷ (y ∷ [])) ∷ t) (bytes_of_pairs k xs (omega (arith, h)))
+
+pub hex_of_pairs : (k : ℕ) (xs : List ℕ) → length xs ≡ 2 * k → all_hex xs ≡ true → list_all pair_is_hex (first_chunks 2 k xs) ≡ true
+hex_of_pairs zero xs h e = refl
+hex_of_pairs (suc k) [] h e = absurd (omega (arith, h))
+hex_of_pairs (suc k) (x ∷ []) h e = absurd (omega (arith, h))
+hex_of_pairs (suc k) (x ∷ (y ∷ xs)) h e =
+    let first = and_parts (is_hex_digit x) (all_hex (y ∷ xs)) e in
+    let second = and_parts (is_hex_digit y) (all_hex xs) first.1 in
+    rw (first.0, second.0) (hex_of_pairs k xs (omega (arith, h)) second.1)

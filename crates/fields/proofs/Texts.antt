@@ -1,11 +1,12 @@
 -- Texts that are written one after another and cut off at n bytes.
-use Rattle.std.proofs.Common.{◌≡◌, ℕ, zero, suc, ◌+◌, ◌-◌, ◌*◌, ◌/◌, ◌%◌, ◌<◌, ◌≤◌, min, List, [], ◌∷◌, ◌++◌, length, get_or, take, set, sym, refl, ap, ◌∙◌, ⊎_elim, append_assoc, append-nil, suc-add, zero-add, arith, length-append}
+use Rattle.std.proofs.Common.{◌≡◌, ℕ, zero, suc, ◌+◌, ◌-◌, ◌*◌, ◌/◌, ◌%◌, ◌<◌, ◌≤◌, min, List, [], ◌∷◌, ◌++◌, length, get_or, take, drop, sym, refl, ap, ◌∙◌, ⊎_elim, append_assoc, append-nil, suc-add, zero-add, arith, length-append}
 use native.Mathlib.Nat.{min-eq_left, min-eq_right}
-use Rattle.std.proofs.lemmas.List.{take_all, length-take-le, take_more, take_more_set}
+use borrow.Rule.Slice.PartMut.{put_mid}
+use Rattle.std.specs.Prelude.{replicate}
+use Rattle.std.proofs.lemmas.Slice.{take-put_mid, drop-put_mid}
+use Rattle.std.proofs.lemmas.List.{drop-drop, drop-replicate, length-drop, take_all, length-take-le, take_more}
 use Rattle.std.proofs.lemmas.Bool.{cases_lt}
 use Rattle.fields.specs.Hex.{hex_of, hex_digit}
-use Rattle.fields.specs.Texts.{written}
-use Rattle.fields.specs.declared.text.Text.{Text}
 
 take_past : (u t : List ℕ) (n : ℕ) → take (length u + n) (u ++ t) ≡ u ++ take n t
 take_past [] t n = ap (λ m. take m t) (zero-add n)
@@ -25,16 +26,31 @@ cut_off n k u t h e =
     sym (take_past u t k) ∙ ap (λ j. take j (u ++ t)) s)
     (cases_lt (length t) (n - length u))
 
--- one more byte of t behind the first p
-pub put_more : (o t whole : List ℕ) (p i : ℕ) → p + i < length o → i < length t → take (p + i) o ≡ whole ++ take i t
-    → take (p + (i + 1)) (set o (p + i) (get_or t i 0)) ≡ whole ++ take (i + 1) t
-put_more o t whole p i h l e =
-    let s : p + (i + 1) ≡ p + i + 1 = omega arith in
-    ap (λ n. take n (set o (p + i) (get_or t i 0))) s
-    ∙ take_more_set o (p + i) (get_or t i 0) h
-    ∙ ap (λ u. u ++ (get_or t i 0 ∷ [])) e
-    ∙ append_assoc whole (take i t) (get_or t i 0 ∷ [])
-    ∙ ap (λ u. whole ++ u) (sym (take_more t i 0 l))
+-- a write of t at the end of the first k of n bytes, as far as it has room
+module _ (n k m : ℕ) (b t c : List ℕ) (wide : length b ≡ n) (within : k ≤ n) (room : m ≡ min (length t) (n - k)) (part : c ≡ take m t) where
+  fits : (k + m ≤ n) × (m ≤ length t)
+  fits = (omega (arith, within, room), omega (arith, within, room))
+
+  long : length c ≡ m
+  long = ap length part ∙ length-take-le m t fits.1
+
+  pub put_at_end : take (k + m) (put_mid k (k + m - k) b c) ≡ take n (take k b ++ t)
+  put_at_end =
+      let front = length-take-le k b (omega (arith, wide, within)) in
+      take-put_mid k (k + m - k) b c (k + m) (omega (arith, long)) (omega (arith, wide, within))
+      ∙ ap (λ u. take k b ++ u) part
+      ∙ cut_off n m (take k b) t (omega (arith, front, within)) (room ∙ ap (λ x. min (length t) (n - x)) (sym front))
+
+  -- the zeros behind it
+  pub still_padded : drop k b ≡ replicate (n - k) 0 → (length (put_mid k (k + m - k) b c) ≡ n) × (k + m ≤ n) × (drop (k + m) (put_mid k (k + m - k) b c) ≡ replicate (n - (k + m)) 0)
+  still_padded zeros =
+      let front = length-take-le k b (omega (arith, wide, within)) in
+      let behind = drop-put_mid k (k + m - k) b c (k + m) (omega arith) (omega (arith, wide, within)) (omega (arith, long)) in
+      let left : n - k - m ≡ n - (k + m) = omega arith in (
+        simp (length-append, length-drop) (omega (arith, front, long, wide, fits)),
+        fits.0,
+        rw (behind, ← drop-drop, zeros, drop-replicate, left),
+      )
 
 take_again : (n : ℕ) (u t : List ℕ) → take n (take n u ++ t) ≡ take n (u ++ t)
 take_again zero u t = refl
@@ -56,14 +72,6 @@ hex_append (x ∷ xs) ys = ap (λ t. hex_digit (x / 16) ∷ (hex_digit (x % 16) 
 -- the digits of one byte more
 pub hex_more : (xs : List ℕ) (i : ℕ) → i < length xs → hex_of (take (i + 1) xs) ≡ hex_of (take i xs) ++ hex_of (get_or xs i 0 ∷ [])
 hex_more xs i h = ap hex_of (take_more xs i 0 h) ∙ hex_append (take i xs) (get_or xs i 0 ∷ [])
-
--- a text has at most n bytes
-pub text_short : (n : ℕ) (t : Text n) → length (written n t) ≤ n
-text_short n t =
-    let wide = t.wide in
-    let within = t.within in
-    let l = length-take-le t.len t.bytes (omega (arith, wide, within)) in
-    omega (arith, l, within)
 
 pub length_hex : (xs : List ℕ) → length (hex_of xs) ≡ 2 * length xs
 length_hex [] = refl

@@ -1,7 +1,6 @@
 -- Decimal fields.
-use Rattle.std.specs.Prelude.{ℕ, ◌+◌, ◌-◌, ◌*◌, Bool, cond, not, ◌&&◌, ◌||◌, List, [], ◌∷◌, length, drop, Some, None, Option, ◌==◌, nat_le, slice_index}
+use Rattle.std.specs.Prelude.{ℕ, ◌+◌, ◌-◌, ◌*◌, Bool, cond, not, ◌&&◌, ◌||◌, List, [], ◌∷◌, length, Some, None, Option, ◌==◌, nat_le, slice_index}
 use Rattle.std.specs.Str.{all_ascii_digits}
-use Rattle.fields.specs.declared.digits.Digits.{Digits}
 
 -- 1 to 16 digits, and no leading zero but in 0
 abbrev pub is_decimal : List ℕ → Bool
@@ -15,7 +14,3 @@ read_on n (c ∷ cs) = read_on (10 * n + (c - 48)) cs
 -- the number of a decimal field
 abbrev pub number_of : List ℕ → Option ℕ
 number_of ds = cond (is_decimal ds) (Some (read_on 0 ds)) None
-
--- what written digits hold
-abbrev pub shown : Digits → List ℕ
-shown d = drop d.start d.bytes

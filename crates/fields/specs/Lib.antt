@@ -3,4 +3,3 @@ pub mod Cuts
 pub mod Decimals
 pub mod Hex
 pub mod Faults
-pub mod Texts

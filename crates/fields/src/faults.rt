@@ -1,37 +1,43 @@
-// Fields of a line of a text: a fault tells its number and the line.
+// Fields of a line of a text: a fault tells why one is refused, and the line.
 ghost use Rattle.std.specs.Prelude.{◌≡◌, Ok, Err, MatchResult};
-ghost use Rattle.fields.specs.Faults.{at_line, number_at, bytes_at};
+ghost use Rattle.refusals.specs.Refusals.{number as number_of};
+ghost use Rattle.refusals.specs.declared.refusal.Refusal.TheVariants.{Line};
+ghost use Rattle.fields.specs.Faults.{number_at, bytes_at};
 
 use crate::decimals::number;
 use crate::hex::bytes;
+use refusals::refusal::Refusal;
 
-// A refusal of a field: its number, and the line that the field stands on.
-#[derive(Clone, Copy)]
+// A refusal of a field: why, and the line that the field stands on.
+#[derive(Clone, Copy, PartialEq, Eq, Debug)]
 pub struct FieldFault {
-    pub number: u8,
+    pub refusal: Refusal,
     pub line: u32,
 }
 
-// A field that was read; 14 and the line for one that could not be.
-fn of_form<T>(read: Option<T>, line: u32) -> Result<T, FieldFault>
-    ensures { MatchResult result (λ x. at_line line read ≡ Ok x) (λ e. at_line line read ≡ Err (e.number, e.line)) }
-{
-    match read {
-        Some(x) => Ok(x),
-        None => Err(FieldFault { number: 14, line }),
+impl FieldFault {
+    // A field of that line is not of its form.
+    pub fn malformed(line: u32) -> Self
+        ensures refusal { result.refusal ≡ Line }
+        ensures line { result.line ≡ line }
+    {
+        FieldFault {
+            refusal: Refusal::Line,
+            line,
+        }
     }
 }
 
-// The number of a decimal field; 14 and the line for any other field.
+// The number of a decimal field; refuses any other field as malformed.
 pub fn number_at(field: &[u8], line: u32) -> Result<u64, FieldFault>
-    ensures { MatchResult result (λ x. number_at line field.now ≡ Ok x) (λ e. number_at line field.now ≡ Err (e.number, e.line)) }
+    ensures { MatchResult result (λ x. number_at line field.now ≡ Ok x) (λ e. number_at line field.now ≡ Err (number_of e.refusal, e.line)) }
 {
-    of_form(number(field), line)
+    number(field).ok_or(FieldFault::malformed(line))
 }
 
-// The N bytes of a hexadecimal field; 14 and the line for any other field.
+// The N bytes of a hexadecimal field; refuses any other field as malformed.
 pub fn bytes_at<const N: usize>(field: &[u8], line: u32) -> Result<[u8; N], FieldFault>
-    ensures { MatchResult result (λ x. bytes_at line N field.now ≡ Ok x) (λ e. bytes_at line N field.now ≡ Err (e.number, e.line)) }
+    ensures { MatchResult result (λ x. bytes_at line N field.now ≡ Ok x) (λ e. bytes_at line N field.now ≡ Err (number_of e.refusal, e.line)) }
 {
-    of_form(bytes(field), line)
+    bytes(field).ok_or(FieldFault::malformed(line))
 }

@@ -5,7 +5,7 @@ ghost use Rattle.fields.specs.Hex.{is_hex_digit, nibble as nibble_of, all_hex, b
 fn is_hex_digit(b: u8) -> bool
     ensures { result ≡ is_hex_digit b }
 {
-    (b >= b'0' && b <= b'9') || (b >= b'a' && b <= b'f')
+    matches!(b, b'0'..=b'9' | b'a'..=b'f')
 }
 
 // The value of a digit.
@@ -14,18 +14,13 @@ fn nibble(b: u8) -> u8
     ensures value { result ≡ nibble_of b }
     ensures small { result < 16 }
 {
-    if b <= b'9' { b - b'0' } else { b - 87 }
+    if b <= b'9' { b - b'0' } else { b - b'a' + 10 }
 }
 
 fn all_hex(field: &[u8]) -> bool
     ensures { result ≡ all_hex field.now }
 {
-    for b in field {
-        if !is_hex_digit(*b) {
-            return false;
-        }
-    }
-    true
+    field.iter().all(|b| is_hex_digit(*b))
 }
 
 // The byte of two digits, the high half first.
@@ -45,13 +40,15 @@ fn is_hex(field: &[u8], n: usize) -> bool
 }
 
 // The bytes that pairs of digits stand for.
+// Kept: no plainer with the kit's `hex`, which takes capitals too: the digits would still be tested here first.
 fn unhex<const N: usize>(field: &[u8]) -> [u8; N]
     requires { (length field.now ≡ 2 * N) × (all_hex field.now ≡ true) }
     ensures { result ≡ bytes_of field.now }
 {
+    let (pairs, _) = field.as_chunks::<2>();
     let mut out = [0; N];
-    for i in 0..N {
-        out[i] = byte(field[2 * i], field[2 * i + 1]);
+    for (i, [high, low]) in pairs.iter().enumerate() {
+        out[i] = byte(*high, *low);
     }
     out
 }
@@ -72,7 +69,7 @@ fn digit(n: u8) -> u8
     requires { n < 16 }
     ensures { result ≡ hex_digit n }
 {
-    if n < 10 { n + b'0' } else { n + 87 }
+    if n < 10 { b'0' + n } else { b'a' + (n - 10) }
 }
 
 // The two digits of a byte.

@@ -3,8 +3,6 @@
 
 pub mod cuts;
 pub mod decimals;
-mod digits;
 pub mod faults;
 pub mod hex;
 pub mod text;
-mod writing;

@@ -1,5 +1,6 @@
 // A saved text, read.
 ghost use Rattle.std.specs.Prelude.{◌≡◌, ◌≤◌, [], Ok, Err, MatchResult};
+ghost use Rattle.refusals.specs.Refusals.{number as number_of};
 ghost use Rattle.window.specs.Listed.{listed};
 ghost use Rattle.text_laws.specs.Saved.{passages};
 ghost use Rattle.saved_text.specs.Snapshots.{Reads, Lawful};
@@ -9,39 +10,38 @@ use crate::line::{LineFault, next_line};
 use crate::snapshot::{Snapshot, TextFault};
 use window::window::Window;
 
+// The line of the first passage.
+const FIRST_PASSAGE: u32 = 3;
+
 impl From<LineFault> for TextFault {
-    ghost from_gives = { λ e f. (f.number ≡ e.number) × (f.line ≡ e.line) };
+    ghost from_gives = { λ e f. (f.refusal ≡ e.refusal) × (f.line ≡ e.line) };
 
     fn from(fault: LineFault) -> TextFault {
         TextFault {
-            number: fault.number,
+            refusal: fault.refusal,
             line: fault.line,
         }
     }
 }
 
 // The passages from line 3 on, with nothing after them.
-fn read_window(text: &[u8], count: usize, last: u32) -> Result<Window, TextFault>
+fn read_window(text: &[u8], count: u32, last: u32) -> Result<Window, TextFault>
     requires { count ≤ 32 }
-    ensures { MatchResult result (λ w. passages count 3 last [] text.now ≡ Ok (listed w)) (λ e. passages count 3 last [] text.now ≡ Err (e.number, e.line)) }
+    ensures { MatchResult result (λ w. passages count 3 last [] text.now ≡ Ok (listed w)) (λ e. passages count 3 last [] text.now ≡ Err (number_of e.refusal, e.line)) }
 {
+    let end = FIRST_PASSAGE + count;
     let mut window = Window::new();
     let mut before = last;
     let mut rest = text;
-    for i in 0..count {
-        let at = i as u32 + 3;
+    for at in FIRST_PASSAGE..end {
         let (line, after) = next_line(rest, at)?;
         let passage = passage_of(line, at, before)?;
         before = passage.serial;
-        // The window has room, since `count` is at most 32.
-        let _ = window.push(passage);
+        window.push(passage).unwrap();
         rest = after;
     }
-    if rest.len() != 0 {
-        return Err(TextFault {
-            number: 14,
-            line: count as u32 + 3,
-        });
+    if !rest.is_empty() {
+        return Err(TextFault::from(LineFault::malformed(end)));
     }
     Ok(window)
 }
@@ -65,8 +65,9 @@ fn parse(text: &[u8]) -> Result<Snapshot, TextFault>
     })
 }
 
-// What a text says. Refuses every text that is not the text of a valid roll, at its first wrong line: 14 where that line is
-// missing, left over, without its line feed or not of its form, else 15.
+// What a text says. Refuses every text that is not the text of a valid roll, at its first wrong line: as malformed where that
+// line is missing, left over, without its line feed or not of its form, else for its values.
+// Kept: no plainer in one with `parse`, since the law would be proved at each of its returns, and here it is once.
 pub fn read(text: &[u8]) -> Result<Snapshot, TextFault>
     ensures value { Reads text.now result }
     ensures law { Lawful text.now result }

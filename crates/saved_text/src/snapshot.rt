@@ -1,5 +1,6 @@
 // What a saved text says, and why one is refused.
 use press::Chain;
+use refusals::refusal::Refusal;
 use refusals::size::DigestSize;
 use window::window::Window;
 
@@ -18,9 +19,9 @@ pub struct Snapshot {
     pub window: Window,
 }
 
-// A refusal of a saved text: its number, 14 or 15, and the line that is wrong, counted from 1.
+// A refusal of a saved text: why, and the line that is wrong, counted from 1.
 #[derive(Clone, Copy, Debug, PartialEq, Eq)]
 pub struct TextFault {
-    pub number: u8,
+    pub refusal: Refusal,
     pub line: u32,
 }

@@ -3,7 +3,6 @@ ghost use Rattle.std.specs.Prelude.{◌≡◌, ◌≤◌, ◌++◌, length, take
 ghost use Rattle.std.specs.List.{flat_map, AllByRecursion};
 ghost use Rattle.byte_strings.specs.Bytes.{Bytes};
 ghost use Rattle.passages.specs.Rows.{encoded_all};
-ghost use Rattle.fields.specs.Texts.{written};
 ghost use Rattle.text_laws.specs.Written.{field_text, hex_line, numbers_text, numbers_told, pass_text, text_of};
 ghost use Rattle.text_laws.specs.Saved.{read_text};
 ghost use Rattle.text_laws.specs.Valid.{Valid, Wide};
@@ -14,15 +13,15 @@ use crate::head::LineNumbers;
 use crate::snapshot::Snapshot;
 use fields::text::Text;
 use passages::passage::Passage;
-use press::{Block, Chain};
+use press::Block;
 use refusals::refusal::Refusal;
 
 // The most bytes that a saved text has: 110 in line 1, 263 in line 2, and 134 for each of 32 passages.
-const MOST: usize = 4661;
+const MOST: usize = 110 + 263 + 134 * 32;
 
 // Adds a tab and a decimal number.
 fn push_field(text: &mut Text<MOST>, n: u64)
-    ensures bytes { written capacity text.new ≡ take capacity (written capacity text.old ++ field_text n) }
+    ensures bytes { text.new ≡ take capacity (text.old ++ field_text n) }
     ensures short { length (field_text n) ≤ 21 }
 {
     text.push(b"\t");
@@ -31,7 +30,8 @@ fn push_field(text: &mut Text<MOST>, n: u64)
 
 // Adds a line of a word and the digits of bytes.
 fn push_line(text: &mut Text<MOST>, word: &[u8], bytes: &[u8])
-    ensures { written capacity text.new ≡ take capacity (written capacity text.old ++ hex_line word.now bytes.now) }
+    ensures bytes { text.new ≡ take capacity (text.old ++ hex_line word.now bytes.now) }
+    ensures wide { Bytes (length bytes.now) bytes.now }
 {
     text.push(word);
     text.push(b"\t");
@@ -41,7 +41,7 @@ fn push_line(text: &mut Text<MOST>, word: &[u8], bytes: &[u8])
 
 // Adds line 1.
 fn push_head(text: &mut Text<MOST>, numbers: &LineNumbers)
-    ensures bytes { written capacity text.new ≡ take capacity (written capacity text.old ++ numbers_text (read_numbers numbers.now)) }
+    ensures bytes { text.new ≡ take capacity (text.old ++ numbers_text (read_numbers numbers.now)) }
     ensures short { length (numbers_text (read_numbers numbers.now)) ≤ 110 }
 {
     text.push(b"roll");
@@ -53,29 +53,14 @@ fn push_head(text: &mut Text<MOST>, numbers: &LineNumbers)
     text.push(b"\n");
 }
 
-// Adds line 2.
-fn push_chain(text: &mut Text<MOST>, chain: &Chain)
-    ensures bytes { written capacity text.new ≡ take capacity (written capacity text.old ++ hex_line (codes "chain") chain.now) }
-    ensures wide { Bytes 128 chain.now }
-{
-    push_line(text, b"chain", chain);
-}
-
-// Adds the line of a passage.
-fn push_passage(text: &mut Text<MOST>, block: &Block)
-    ensures bytes { written capacity text.new ≡ take capacity (written capacity text.old ++ pass_text block.now) }
-    ensures wide { Bytes 64 block.now }
-{
-    push_line(text, b"pass", block);
-}
-
 // Adds the lines of the passages, oldest first.
 fn push_passages(text: &mut Text<MOST>, passages: &[Passage])
-    ensures bytes { written capacity text.new ≡ take capacity (written capacity text.old ++ flat_map pass_text (encoded_all passages.now)) }
+    ensures bytes { text.new ≡ take capacity (text.old ++ flat_map pass_text (encoded_all passages.now)) }
     ensures wide { AllByRecursion (Bytes 64) (encoded_all passages.now) }
 {
+    prove!(text.as_slice().len() <= MOST);
     for passage in passages {
-        push_passage(text, &passage.encode());
+        push_line(text, b"pass", &Block::from(passage));
     }
 }
 
@@ -90,27 +75,29 @@ fn copy(text: &[u8], out: &mut [u8]) -> Result<usize, Refusal>
     Ok(text.len())
 }
 
-impl Snapshot {
-    // The numbers of line 1.
-    fn numbers(&self) -> LineNumbers
-        ensures { read_numbers result ≡ numbers_told (saved_in self.now) }
-    {
+// The numbers of line 1.
+impl From<&Snapshot> for LineNumbers {
+    ghost from_gives = { λ snapshot numbers. read_numbers numbers ≡ numbers_told (saved_in snapshot.now) };
+
+    fn from(snapshot: &Snapshot) -> Self {
         LineNumbers {
-            size: u64::from(self.size.bits()),
-            shipped: u64::from(self.shipped),
-            last: u64::from(self.last),
-            cents: self.cents,
-            window: self.window.len() as u64,
+            size: u64::from(snapshot.size.bits()),
+            shipped: u64::from(snapshot.shipped),
+            last: u64::from(snapshot.last),
+            cents: snapshot.cents,
+            window: snapshot.window.len() as u64,
         }
     }
+}
 
+impl Snapshot {
     fn text(&self) -> Text<MOST>
-        ensures bytes { written capacity result ≡ text_of (saved_in self.now) }
+        ensures bytes { result ≡ text_of (saved_in self.now) }
         ensures wide { Wide (saved_in self.now) }
     {
         let mut text = Text::new();
-        push_head(&mut text, &self.numbers());
-        push_chain(&mut text, &self.chain);
+        push_head(&mut text, &LineNumbers::from(self));
+        push_line(&mut text, b"chain", &self.chain);
         push_passages(&mut text, self.window.as_slice());
         text
     }

@@ -15,7 +15,7 @@ use Rattle.text_laws.specs.Written.{hex_line, pass_text, numbers_text, text_tell
 use Rattle.text_laws.specs.Valid.{Valid}
 use Rattle.text_laws.specs.Laws.{ReadSaves}
 use Rattle.text_laws.proofs.Fields.{number_back, bytes_back}
-use Rattle.text_laws.proofs.Inverts.{ok_inj, err_ok, then_ok, cond_ok}
+use Rattle.text_laws.proofs.Inverts.{ok_inj, then_ok, cond_ok}
 use Rattle.text_laws.proofs.Lines.{line_text, at_back}
 use Rattle.text_laws.proofs.Numbers.{ValidNumbers, valid_numbers}
 
@@ -34,19 +34,19 @@ numbers_back k (roll_line a b c d e) n rest r =
     let y = cond_ok (are_valid m) m n (15, k) x5.2 in
     let t = roll_text a b c d e m rest (number_back k a x1.0 x1.1) (number_back k b x2.0 x2.1) (number_back k c x3.0 x3.1) (number_back k d x4.0 x4.1) (number_back k e x5.0 x5.1) in
     (t ∙ ap (λ v. numbers_text v ++ rest) y.1, sym (ap are_valid y.1) ∙ y.0)
-numbers_back k (chain_line h) n rest r = absurd (err_ok (14, k) n r)
-numbers_back k (pass_line h) n rest r = absurd (err_ok (14, k) n r)
+numbers_back k (chain_line h) n rest r = absurd cc
+numbers_back k (pass_line h) n rest r = absurd cc
 
 chain_back : (k : ℕ) (l : LineFields) (m rest : List ℕ) → chain_of k l ≡ Ok m → (line_text l ++ (10 ∷ rest) ≡ hex_line (codes "chain") m ++ rest) × Bytes 128 m
-chain_back k (roll_line a b c d e) m rest r = absurd (err_ok (14, k) m r)
+chain_back k (roll_line a b c d e) m rest r = absurd cc
 chain_back k (chain_line h) m rest r =
     let x = bytes_back k 128 h m r in
     (ap (λ u. (codes "chain" ++ (9 ∷ u)) ++ (10 ∷ rest)) x.0 ∙ ap (λ u. codes "chain" ++ (9 ∷ u)) (sym (append_assoc (hex_of m) (10 ∷ []) rest)), x.1)
-chain_back k (pass_line h) m rest r = absurd (err_ok (14, k) m r)
+chain_back k (pass_line h) m rest r = absurd cc
 
 passage_back : (k before : ℕ) (l : LineFields) (m rest : List ℕ) → passage_of k before l ≡ Ok m → (line_text l ++ (10 ∷ rest) ≡ pass_text m ++ rest) × Bytes 64 m × (fits_after before m ≡ true)
-passage_back k before (roll_line a b c d e) m rest r = absurd (err_ok (14, k) m r)
-passage_back k before (chain_line h) m rest r = absurd (err_ok (14, k) m r)
+passage_back k before (roll_line a b c d e) m rest r = absurd cc
+passage_back k before (chain_line h) m rest r = absurd cc
 passage_back k before (pass_line h) m rest r =
     let y = then_ok (bytes_at k 64 h) _ m r in
     let z = cond_ok (fits_after before y.0) y.0 m (15, k) y.2 in

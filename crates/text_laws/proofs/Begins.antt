@@ -15,7 +15,7 @@ use Rattle.text_laws.specs.Saved.{saved, line_at, passages, read_text}
 use Rattle.text_laws.specs.Written.{hex_line, pass_text, numbers_text}
 use Rattle.text_laws.specs.FirstLines.{first_lines}
 use Rattle.text_laws.specs.Laws.{Begins, RefusedStands}
-use Rattle.text_laws.proofs.Inverts.{then_err, ok_err}
+use Rattle.text_laws.proofs.Inverts.{then_err}
 use Rattle.text_laws.proofs.Fields.{lacks_hex}
 use Rattle.text_laws.proofs.Lines.{line_text}
 use Rattle.text_laws.proofs.Numbers.{ValidNumbers, small, numbers_valid}
@@ -156,7 +156,7 @@ text_refused t e h =
     let d = text_depends t e h in
     record {
       line = d.0;
-      no_roll = λ s v same. ok_err s e (sym (text_forth s v) ∙ ap read_text same ∙ h);
+      no_roll = λ s v same. let k = sym (text_forth s v) ∙ ap read_text same ∙ h in absurd cc;
       depends = d.1;
       begins = text_begins t e h;
     }

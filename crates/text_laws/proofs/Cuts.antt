@@ -3,7 +3,7 @@ use Rattle.std.proofs.Common.{◌≡◌, ℕ, suc, ◌+◌, Bool, true, false, c
 use Rattle.std.proofs.lemmas.Bool.{lt-ltb, and_parts, and_from, not-true, eq-eqb, eqb-true, cases_Bool}
 use Rattle.std.proofs.lemmas.Bool.Decides.{nat_tests}
 use Rattle.fields.specs.Cuts.{up_to, cut_at}
-use Rattle.text_laws.proofs.Inverts.{some_inj, none_some}
+use Rattle.text_laws.proofs.Inverts.{some_inj}
 
 -- no byte is b
 abbrev pub lacks : ℕ → List ℕ → Bool
@@ -50,12 +50,12 @@ cut_forth b (x ∷ xs) ys h =
     ∙ ap (grown x) (cut_forth b xs ys p.1)
 
 grown_back : (b x : ℕ) (xs : List ℕ) (o : Option (List ℕ × List ℕ)) (p : List ℕ × List ℕ) → ((q : List ℕ × List ℕ) → o ≡ Some q → xs ≡ q.0 ++ (b ∷ q.1)) → grown x o ≡ Some p → x ∷ xs ≡ p.0 ++ (b ∷ p.1)
-grown_back b x xs None p back h = absurd (none_some p h)
+grown_back b x xs None p back h = absurd cc
 grown_back b x xs (Some q) p back h = ap (λ t. x ∷ t) (back q refl) ∙ ap (λ (r : List ℕ × List ℕ). r.0 ++ (b ∷ r.1)) (some_inj (x ∷ q.0, q.1) p h)
 
 -- a text that was cut is its parts with the b between them
 pub cut_back : (b : ℕ) (t : List ℕ) (p : List ℕ × List ℕ) → cut_at b t ≡ Some p → t ≡ p.0 ++ (b ∷ p.1)
-cut_back b [] p h = absurd (none_some p h)
+cut_back b [] p h = absurd cc
 cut_back b (x ∷ t) p h =
     ⊎_elim
     (λ (e : eqb x b ≡ true).

@@ -10,7 +10,7 @@ use Rattle.text_laws.specs.Values.{Numbers, then_read, are_valid, numbers_of, ch
 use Rattle.text_laws.specs.Saved.{saved, line_at, passages, read_text}
 use Rattle.text_laws.specs.FirstLines.{first_lines}
 use Rattle.text_laws.specs.Laws.{Depends}
-use Rattle.text_laws.proofs.Inverts.{err_inj, ok_err}
+use Rattle.text_laws.proofs.Inverts.{err_inj}
 use Rattle.text_laws.proofs.FirstLines.{Agree, lines_agree}
 
 -- r is refused at line k, if at all
@@ -21,7 +21,7 @@ at_own : {X : Type 0} (n k : ℕ) → At {X = X} k (Err (n, k))
 at_own n k e h = sym (ap (λ (f : ℕ × ℕ). f.1) (err_inj (n, k) e h))
 
 at_field : {X : Type 0} (k : ℕ) (o : Option X) → At k (at_line k o)
-at_field k (Some x) e h = absurd (ok_err x e h)
+at_field k (Some x) e h = absurd cc
 at_field k None e h = at_own 14 k e h
 
 at_then : {X Y : Type 0} (k : ℕ) (r : Read X) (f : X → Read Y) → At k r → ((x : X) → At k (f x)) → At k (then_read r f)
@@ -29,7 +29,7 @@ at_then k (Ok x) f a b e h = b x e h
 at_then k (Err g) f a b e h = ap (λ (f : ℕ × ℕ). f.1) (sym (err_inj g e h)) ∙ a g refl
 
 pub at_cond : {X : Type 0} (n k : ℕ) (b : Bool) (x : X) → At k (cond b (Ok x) (Err (n, k)))
-at_cond n k true x e h = absurd (ok_err x e h)
+at_cond n k true x e h = absurd cc
 at_cond n k false x e h = at_own n k e h
 
 pub at_numbers : (k : ℕ) (l : LineFields) → At k (numbers_of k l)
@@ -56,7 +56,7 @@ at_passage k before (pass_line h) = at_then k (bytes_at k 64 h) _ (at_field k (r
 
 pub at_first : {X : Type 0} (k : ℕ) (f : LineFields → Read X) → ((l : LineFields) → At k (f l)) → (o : Option (LineFields × List ℕ)) → At k (line_at k f o)
 at_first k f a None = at_own 14 k
-at_first {X = X} k f a (Some p) = at_then {Y = X × List ℕ} k (f p.0) (λ x. Ok (x, p.1)) (a p.0) (λ x e h. absurd (ok_err {X = X × List ℕ} (x, p.1) e h))
+at_first {X = X} k f a (Some p) = at_then {Y = X × List ℕ} k (f p.0) (λ x. Ok (x, p.1)) (a p.0) (λ x e h. absurd cc)
 
 -- a reader of a text from line k on: a refusal stands at line k or later, and every text with the same lines up to it gets it
 abbrev Late : {X : Type 0} → ℕ → (List ℕ → Read X) → Type 0
@@ -96,7 +96,7 @@ some_left : {X : Type 0} (k : ℕ) (x : X) (b : ℕ) (t : List ℕ) → cond (eq
 some_left {X = X} k x b t = ap (λ c. cond {A = Read X} c (Ok x) (not_of_form k)) (ne_eqb (length (b ∷ t)) 0 (λ z. omega (arith, z)))
 
 late_end : {X : Type 0} (k : ℕ) (x : X) → Late k (λ t. cond (eqb (length t) 0) (Ok x) (not_of_form k))
-late_end k x [] e h = absurd (ok_err x e h)
+late_end k x [] e h = absurd cc
 late_end k x (b ∷ t) e h =
     let own = sym (some_left k x b t) ∙ h in
     let m = ap (λ (g : ℕ × ℕ). g.1) (err_inj (14, k) e own) in (
@@ -112,7 +112,7 @@ late_passages (suc n) k before got =
 
 pub read_err : {X Y : Type 0} (r : Read X) (f : X → Y) (e : ℕ × ℕ) → then_read {Y = Y} r (λ x. Ok (f x)) ≡ Err e → r ≡ Err e
 read_err {X = X} (Err g) f e h = let F : ℕ × ℕ → Read X = λ d. Err d in ap F (err_inj g e h)
-read_err (Ok x) f e h = absurd (ok_err (f x) e h)
+read_err (Ok x) f e h = absurd cc
 
 late_then : {X Y : Type 0} (k : ℕ) (R : List ℕ → Read X) (f : X → Y) → Late k R → Late k (λ t. then_read {Y = Y} (R t) (λ x. Ok (f x)))
 late_then {Y = Y} k R f late t e h =

@@ -1,10 +1,10 @@
 -- Decimal and hexadecimal fields, written and read.
-use Rattle.std.proofs.Common.{◌≡◌, ℕ, ◌+◌, ◌-◌, ◌*◌, ◌/◌, ◌%◌, ◌^◌, ◌<◌, true, cond, not, ◌&&◌, ◌||◌, eqb, List, [], ◌∷◌, length, get_or, Some, None, Ok, decimal, sym, refl, ap, ◌∙◌, subst, ⊎_elim, arith, rules}
+use Rattle.std.proofs.Common.{◌≡◌, ℕ, ◌+◌, ◌-◌, ◌*◌, ◌/◌, ◌%◌, ◌^◌, ◌<◌, true, cond, not, ◌&&◌, ◌||◌, eqb, List, [], ◌∷◌, length, get_or, Some, None, Ok, decimal, sym, refl, ap, ◌∙◌, subst, ⊎_elim, arith}
 use native.Mathlib.Nat.{div-add-mod}
 use Rattle.std.specs.Char.{is_ascii_digit}
 use Rattle.std.specs.Str.{all_ascii_digits}
 use Rattle.std.specs.List.{AllByRecursion}
-use Rattle.std.proofs.lemmas.Str.Parse.{IsNumeralModel, numerals_by_fold, digits_value_short}
+use Rattle.std.proofs.lemmas.Str.Parse.{digits_value_short}
 use Rattle.std.proofs.lemmas.Fmt.{digits_decimal, digits_value-decimal, length-decimal-le, decimal_nonempty, first_decimal, decimal_digit, decimal-digits_value}
 use Rattle.std.proofs.lemmas.Bool.{le-leb, and_parts, and_from, or_left, or_right, eq-eqb, ne_eqb, cases_eq, eqb-true, leb-true, not_from_false, both_ways, not-true, or_cases}
 use Rattle.std.proofs.lemmas.Bool.Decides.{nat_tests}
@@ -13,12 +13,10 @@ use Rattle.byte_strings.proofs.Strings.{all_bytes, bytes_all}
 use Rattle.fields.specs.Decimals.{is_decimal, read_on}
 use Rattle.fields.specs.Hex.{is_hex_digit, all_hex, nibble, hex_digit, hex_of, bytes_of}
 use Rattle.fields.specs.Faults.{number_at, bytes_at, at_line}
+use Rattle.fields.proofs.Numerals.{own}
 use Rattle.fields.proofs.Texts.{length_hex}
 use Rattle.text_laws.proofs.Cuts.{lacks}
 use Rattle.text_laws.proofs.Inverts.{read_ok}
-
-own : IsNumeralModel (λ ds. all_ascii_digits ds ≡ true) (read_on 0)
-own = numerals_by_fold _ (search rules) read_on (search rules)
 
 decimal_form : (n : ℕ) → n < 10 ^ 16 → is_decimal (decimal n) ≡ true
 decimal_form n h =

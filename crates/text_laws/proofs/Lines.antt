@@ -9,7 +9,7 @@ use Rattle.text_laws.specs.Lines.{LineFields, roll_line, chain_line, pass_line, 
 use Rattle.text_laws.specs.Values.{then_read}
 use Rattle.text_laws.specs.Saved.{line_at}
 use Rattle.text_laws.proofs.Cuts.{lacks, cut_forth, cut_back}
-use Rattle.text_laws.proofs.Inverts.{some_inj, none_some, ok_inj, err_ok, and_then_some, then_ok}
+use Rattle.text_laws.proofs.Inverts.{some_inj, ok_inj, and_then_some, then_ok}
 
 -- the bytes of a line, with no line feed
 abbrev pub line_text : LineFields → List ℕ
@@ -50,7 +50,7 @@ word_back w t l h =
     (λ (f : bytes_eq w (codes "chain") ≡ false). let h2 = simp f at h1 in
     ⊎_elim
     (λ (g : bytes_eq w (codes "pass") ≡ true). ap (λ u. u ++ (9 ∷ t)) (same_from w (codes "pass") g) ∙ ap line_text (some_inj (pass_line t) l (simp g at h2)))
-    (λ (g : bytes_eq w (codes "pass") ≡ false). absurd (none_some l (simp g at h2)))
+    (λ (g : bytes_eq w (codes "pass") ≡ false). absurd (let k = simp g at h2 in cc))
     (cases_Bool (bytes_eq w (codes "pass"))))
     (cases_Bool (bytes_eq w (codes "chain"))))
     (cases_Bool (bytes_eq w (codes "roll")))
@@ -82,7 +82,7 @@ at_forth {X = X} k t f l rest x e g = ap (line_at k f) e ∙ ap (λ (r : Read X)
 
 at_ok : {X : Type 0} (k : ℕ) (f : LineFields → Read X) (o : Option (LineFields × List ℕ)) (p : X × List ℕ) → line_at k f o ≡ Ok p
     → (q : LineFields × List ℕ) × (o ≡ Some q) × (f q.0 ≡ Ok p.0) × (q.1 ≡ p.1)
-at_ok k f None p h = absurd (err_ok (14, k) p h)
+at_ok k f None p h = absurd cc
 at_ok {X = X} k f (Some q) p h =
     let x = then_ok {Y = X × List ℕ} (f q.0) (λ y. Ok (y, q.1)) p h in
     let pr = ok_inj {X = X × List ℕ} (x.0, q.1) p x.2 in

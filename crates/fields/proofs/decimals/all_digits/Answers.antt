@@ -1,12 +1,14 @@
-use Rattle.std.proofs.Common.{arith}
-use Rattle.std.proofs.lemmas.List.{drop_more, drop_all}
+use Rattle.std.proofs.Common.{◌&&◌, refl, ◌∙◌, rules}
+use Rattle.std.specs.Char.{is_ascii_digit}
+use Rattle.std.specs.List.{list_all}
+use Rattle.std.specs.Str.{all_ascii_digits}
+use Rattle.std.proofs.lemmas.Iterator.{YieldsList-from_slice}
+use Rattle.std.proofs.lemmas.Iterator.Search.{all_from_yields_List}
+use Rattle.std.proofs.lemmas.List.Recursion.{same_from_clauses}
+use borrow.Author.Tests.{tests}
 use Rattle.fields.proofs.decimals.all_digits.Goals as goal
 
-pub loop-b-preserved : goal.loop-b-preserved
-loop-b-preserved c = let e = drop_more c.args.field.now c.loop-b.b-index 0 c.loop-b-test.true in grind (arith, e)
-
 pub returns : goal.returns
-returns c = let e = drop_all c.loop-b.b-index c.args.field.now c.loop-b-test.false in grind (arith, e)
-
-pub returns-then-b-lt48 : goal.returns-then-b-lt48
-returns-then-b-lt48 c = let e = drop_more c.args.field.now c.loop-b.b-index 0 c.loop-b-test.true in grind (arith, e)
+returns c =
+    all_from_yields_List is_ascii_digit _ _ _ c.all.ensures.ran (YieldsList-from_slice c.args.field.now cc) (λ x b q k. search (rules, tests))
+    ∙ same_from_clauses (list_all is_ascii_digit) all_ascii_digits (λ b more. is_ascii_digit b && more) refl (λ _ _. refl) (λ _ _. refl) c.args.field.now

@@ -1,12 +1,13 @@
-use Rattle.std.proofs.Common.{arith}
-use Rattle.std.proofs.lemmas.List.{drop_more, drop_all}
+use Rattle.std.proofs.Common.{◌&&◌, refl, ◌∙◌, rules}
+use Rattle.std.specs.List.{list_all}
+use Rattle.std.proofs.lemmas.Iterator.{YieldsList-from_slice}
+use Rattle.std.proofs.lemmas.Iterator.Search.{all_from_yields_List}
+use Rattle.std.proofs.lemmas.List.Recursion.{same_from_clauses}
+use borrow.Author.Tests.{tests}
+use Rattle.fields.specs.Hex.{is_hex_digit, all_hex}
 use Rattle.fields.proofs.hex.all_hex.Goals as goal
 
-pub loop-b-preserved : goal.loop-b-preserved
-loop-b-preserved c = let e = drop_more c.args.field.now c.loop-b.b-index 0 c.loop-b-test.true in grind (arith, e)
-
 pub returns : goal.returns
-returns c = let e = drop_all c.loop-b.b-index c.args.field.now c.loop-b-test.false in grind (arith, e)
-
-pub returns-then-not-is_hex_digit : goal.returns-then-not-is_hex_digit
-returns-then-not-is_hex_digit c = let e = drop_more c.args.field.now c.loop-b.b-index 0 c.loop-b-test.true in grind (arith, e)
+returns c =
+    all_from_yields_List is_hex_digit _ _ _ c.all.ensures.ran (YieldsList-from_slice c.args.field.now cc) (λ x b q k. search (rules, tests))
+    ∙ same_from_clauses (list_all is_hex_digit) all_hex (λ b more. is_hex_digit b && more) refl (λ _ _. refl) (λ _ _. refl) c.args.field.now
