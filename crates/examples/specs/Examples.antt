@@ -3,7 +3,8 @@ use Rattle.std.specs.Prelude.{◌≡◌, ℕ, true, false, List, [], ◌∷◌, 
 use Rattle.std.specs.List.{range_with_len}
 use Rattle.jh.specs.Round.{sbox, first, second, permute}
 use Rattle.jh.specs.Message.{zero_bits}
-use Rattle.jh.specs.Compression.{size_bytes, ending_block}
+use Rattle.jh.specs.Compression.{ending_block}
+use Rattle.drill_press.specs.Drill.{drill}
 use Rattle.daybook.specs.States.{State, after_open}
 use Rattle.text_laws.specs.Written.{text_of}
 use Rattle.roll_contents.specs.Texts.{saved_by}
@@ -13,9 +14,9 @@ use Rattle.examples.specs.Rolls.{DrillAnswered}
 abbrev pub moved_to : ℕ → ℕ
 moved_to place = slice_index (permute (range_with_len 0 256)) place
 
--- a new roll over the drill press, whose opening value is the size and zeros
+-- a new roll over the drill press
 abbrev pub new_drill_roll : ℕ → State (Unit {0})
-new_drill_roll size = after_open (λ _ n. size_bytes n) tt size
+new_drill_roll size = after_open (λ _. drill) tt size
 
 -- the saved text of a roll
 abbrev pub saved_text : State (Unit {0}) → List ℕ
