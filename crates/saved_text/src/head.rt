@@ -13,11 +13,12 @@ use passages::passage::Passage;
 use press::{Block, Chain};
 use refusals::refusal::Refusal;
 use refusals::size::DigestSize;
+use window::limits;
 
-// The most passages in a window, and on a roll.
-const MOST_WAITING: u64 = 32;
+// The most passages in a window, and on a roll, as numbers of a line.
+const MOST_WAITING: u64 = limits::MOST_WAITING as u64;
 
-const MOST_STANDING: u64 = 1_000_000;
+const MOST_STANDING: u64 = limits::MOST_STANDING as u64;
 
 // The highest serial, and the highest price of a passage.
 const HIGHEST: u64 = u32::MAX as u64;
