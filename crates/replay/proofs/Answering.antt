@@ -1,8 +1,8 @@
 -- What a call answers, in the daybook's words.
-use Rattle.std.proofs.Common.{◌≡◌, ℕ, ◌≤◌, min, false, cond, eqb, List, [], ◌++◌, length, take, drop, IfOk, Ok, Err, Result, sym, refl, ap, ◌∙◌, ap₂, arith}
+use Rattle.std.proofs.Common.{◌≡◌, ℕ, ◌≤◌, false, eqb, List, [], ◌++◌, length, take, drop, IfOk, Ok, Err, Result, sym, refl, ap, ◌∙◌, ap₂, arith}
 use Rattle.std.proofs.lemmas.List.{append_assoc, append-nil, take_at, take_all, drop_all, length-take-le}
 use Rattle.std.proofs.lemmas.Bool.Decides.{nat_tests}
-use Rattle.refusals.specs.Refusals.{number, outcome, ship_refusal, buffer_refusal}
+use Rattle.refusals.specs.Refusals.{number, outcome, ship_refusal}
 use Rattle.refusals.specs.declared.refusal.Refusal.{Refusal}
 use Rattle.refusals.specs.declared.refusal.Refusal.TheVariants.{Size, Bytes, Bits, Buffer, Length, Full, Standing, Serial, Form, Price, Shipped as Gone, Unknown, Empty, Line, Values, Request as NotAllowed}
 use Rattle.daybook.specs.Contents.{contents_length}
@@ -67,14 +67,6 @@ kept_else size calls (Cancel n) a b = refl
 kept_else size calls (Ship n) a b = refl
 kept_else size calls (Save n) a b = refl
 kept_else size calls Resume a b = absurd (a refl)
-
--- bytes past the 64th make no difference to a ship
-pub room_ship : (room waiting : ℕ) → ship_refusal (min room 64) waiting ≡ ship_refusal room waiting
-room_ship room waiting = ap (λ b. cond b 4 (cond (eqb waiting 0) 13 0)) (grind (arith, nat_tests))
-
--- bytes past any that are written make none either
-pub room_write : (room most n : ℕ) → n ≤ most → buffer_refusal (min room most) n ≡ buffer_refusal room n
-room_write room most n h = grind (arith, nat_tests)
 
 some_room : (m w : ℕ) → 0 ≡ ship_refusal m w → 64 ≤ m
 some_room m w e = grind (arith, nat_tests)
