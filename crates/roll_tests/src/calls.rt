@@ -2,7 +2,9 @@
 use crate::samples::{opened, passage, refused_so, sample, saved, with_passages};
 use drill_press::Drill;
 use passages::passage::Passage;
+use press::Block;
 use refusals::refusal::Refusal;
+use roll_contents::contents::Total;
 use rolls::state::OpenRoll;
 use std::test::Fail;
 
@@ -35,9 +37,13 @@ fn cancels_after_close_and_reopen(rt: HostRuntime) -> Result<(), Fail> {
     rest.ship(&mut block)?;
     assert!(rt; saved(&roll)? == saved(&rest)?);
     let (roll, rest) = (roll.close(), rest.close());
-    let total = roll.total();
-    assert_eq!(rt; total.cents, 750);
-    assert_eq!(rt; total.count, 3);
+    assert_eq!(rt;
+        roll.total(),
+        Total {
+            cents: 750,
+            count: 3
+        }
+    );
     let mut digest = [0; 64];
     let mut other = [0; 64];
     roll.digest(&mut digest)?;
@@ -58,7 +64,7 @@ fn refuses_passes_in_order(rt: HostRuntime) -> Result<(), Fail> {
     };
     refused_so(
         &rt,
-        roll.pass(&unformed.encode()),
+        roll.pass(&Block::from(&unformed)),
         Refusal::Form,
         &before,
         &roll,
@@ -72,7 +78,7 @@ fn refuses_passes_in_order(rt: HostRuntime) -> Result<(), Fail> {
     };
     refused_so(
         &rt,
-        roll.pass(&unpriced.encode()),
+        roll.pass(&Block::from(&unpriced)),
         Refusal::Price,
         &before,
         &roll,

@@ -23,15 +23,12 @@ pub fn sample(serial: u32) -> Passage {
 }
 
 pub fn passage(serial: u32) -> Block {
-    sample(serial).encode()
+    Block::from(&sample(serial))
 }
 
 // A new roll of 512 bits.
 pub fn opened() -> Result<OpenRoll<Drill>, Fail> {
-    match OpenRoll::open(Drill, 512) {
-        Ok(roll) => Ok(roll),
-        Err(_) => Err(Fail::new("not opened")),
-    }
+    OpenRoll::open(Drill, 512).map_err(|_| Fail::new("not opened"))
 }
 
 // A roll of 512 bits with the passages of these serials.

@@ -30,20 +30,25 @@ fn resumed(
     rt: &(impl Abort + AllocGlobal),
     head: &[u8],
     rest: &[u8],
-) -> Result<Result<(), TextFault>, Fail> {
+) -> Result<Result<(), (u8, u32)>, Fail> {
     let mut text = Vec::new(rt.alloc());
     text.extend_from_slice(head)?;
     text.extend_from_slice(rest)?;
     let mut roll = opened()?;
-    let result = roll.resume(text.as_slice());
+    let result = roll.resume(text.as_slice()).map_err(told);
     if result.is_err() {
         assert!(rt; saved(&roll)? == saved(&opened()?)?);
     }
     Ok(result)
 }
 
-fn fault(number: u8, line: u32) -> Result<(), TextFault> {
-    Err(TextFault { number, line })
+// The number and the line that a fault tells.
+fn told(fault: TextFault) -> (u8, u32) {
+    (fault.refusal.into(), fault.line)
+}
+
+fn fault(number: u8, line: u32) -> Result<(), (u8, u32)> {
+    Err((number, line))
 }
 
 #[test]
@@ -149,7 +154,10 @@ fn refuses_a_damaged_passage(rt: HostRuntime) -> Result<(), Fail> {
     ] {
         let mut damaged = text;
         damaged[LINE_2 + 5 + place] = digit;
-        assert_eq!(rt; roll.resume(&damaged[0..LINE_4]), fault(number, 3));
+        assert_eq!(rt;
+            roll.resume(&damaged[0..LINE_4]).map_err(told),
+            fault(number, 3)
+        );
     }
     Ok(())
 }

@@ -20,7 +20,6 @@ invariant_of-self-2 c =
     let l = e.0 in
     let s = k.standing in
     let t = k.serials in
-    let paid = c.from.ensures in
     let u = k.cents in
     let order : in_order p.serial (listed c.remove.new.self) ≡ true =
     ap (in_order p.serial) e.2 ∙ ap (λ (j : ℕ). in_order j (drop 1 ms)) serial ∙ rest.1 in
@@ -34,4 +33,4 @@ returns c =
     let e = c.in_ok-passage.ensures in
     let serial : p.serial ≡ serial_of (get_or ms 0 []) = sym (serial_encoded p (omega arith)) ∙ ap serial_of e.1 in
     let charged : p.charged ≡ charged_of (get_or ms 0 []) = sym (charged_encoded p (omega arith)) ∙ ap charged_of e.1 in
-    (e.1, e.0, cc (serial, charged, e.2, c.from.ensures))
+    (e.1, e.0, cc (serial, charged, e.2))
