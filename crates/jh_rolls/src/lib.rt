@@ -23,7 +23,7 @@ use rolls::state::ClosedRoll;
 pub fn digest<P: Permutation>(roll: &ClosedRoll<JhPress<P>>, out: &mut [u8]) -> Result<(), Refusal>
     ensures answer { outcome result ≡ buffer_refusal (length out.old) (digest_length (closed_state_of roll.now)) }
     ensures written { Writes result (digest_length (closed_state_of roll.now)) (digest_in (closed_state_of roll.now)) out.old out.new }
-    ensures jh { MeansE8 (P.image roll.now.press.permutation) → OnOk result ((size : ℕ) (calls : List Call) → CameShut P.image (closed_state_of roll.now) size calls → out.new ≡ jh_of (daybook size calls) ++ drop (size / 8) out.old) }
+    ensures jh { MeansE8 (P.image (closed_state_of roll.now).press.permutation) → OnOk result ((size : ℕ) (calls : List Call) → CameShut P.image (closed_state_of roll.now) size calls → out.new ≡ jh_of (daybook size calls) ++ drop (size / 8) out.old) }
 {
     roll.digest(out)
 }

@@ -13,12 +13,9 @@ use Rattle.text_laws.specs.Saved.{read_text}
 use Rattle.saved_text.specs.Snapshots.{Saves}
 use Rattle.rolls.specs.Buffers.{Writes}
 use Rattle.rolls.specs.Texts.{saved_of}
-use Rattle.replay.specs.Heard.{answered, turn_open, turn_kept}
+use Rattle.replay.specs.Heard.{answered}
 use Rattle.replay.specs.Stands.{Answers, SavesText}
-use Rattle.replay.specs.declared.request.Request.{Request}
-use Rattle.replay.specs.declared.request.Request.TheVariants.{Close, Reopen, Pass, Cancel, Ship, Save, Resume}
 use Rattle.replay.specs.declared.request.Answer.{Answer}
-use Rattle.replay.specs.declared.request.Answer.TheVariants.{Refused}
 
 -- no refusal has the number 0
 pub not_zero : (e : Refusal) → eqb (number e) 0 ≡ false
@@ -38,35 +35,6 @@ not_zero Empty = refl
 not_zero Line = refl
 not_zero Values = refl
 not_zero NotAllowed = refl
-
--- so a call is answered by the refusal with its number
-pub told_refusal : (e : Refusal) (a : Answer) → Refused e ≡ answered (number e) a
-told_refusal Size a = refl
-told_refusal Bytes a = refl
-told_refusal Bits a = refl
-told_refusal Buffer a = refl
-told_refusal Length a = refl
-told_refusal Full a = refl
-told_refusal Standing a = refl
-told_refusal Serial a = refl
-told_refusal Form a = refl
-told_refusal Price a = refl
-told_refusal Gone a = refl
-told_refusal Unknown a = refl
-told_refusal Empty a = refl
-told_refusal Line a = refl
-told_refusal Values a = refl
-told_refusal NotAllowed a = refl
-
--- after a save any request but a resume and a reopen is one to an open roll
-pub kept_else : (size : ℕ) (calls : List Call) (q : Request) → (q ≡ Resume → ⊥) → (q ≡ Reopen → ⊥) → turn_kept size calls q ≡ turn_open size calls q
-kept_else size calls Close a b = refl
-kept_else size calls Reopen a b = absurd (b refl)
-kept_else size calls (Pass m) a b = refl
-kept_else size calls (Cancel n) a b = refl
-kept_else size calls (Ship n) a b = refl
-kept_else size calls (Save n) a b = refl
-kept_else size calls Resume a b = absurd (a refl)
 
 some_room : (m w : ℕ) → 0 ≡ ship_refusal m w → 64 ≤ m
 some_room m w e = grind (arith, nat_tests)
