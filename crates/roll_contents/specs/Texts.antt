@@ -1,6 +1,7 @@
 -- What the saved text of a roll tells.
 use Rattle.std.specs.Prelude.{◌≡◌, ℕ, ◌≤◌, List, length, Ok, Err, Result}
 use Rattle.refusals.specs.declared.refusal.Refusal.{Refusal}
+use Rattle.refusals.specs.Refusals.{number}
 use Rattle.daybook.specs.Contents.{Contents, contents_length}
 use Rattle.text_laws.specs.Saved.{Saved, read_text}
 use Rattle.text_laws.specs.Valid.{Valid}
@@ -33,4 +34,4 @@ abbrev pub ReadsText : List ℕ → Result Resumed TextFault → Type 0
 ReadsText t (Ok x) =
     let s = saved_by x.seal (contents_of x.contents) in
     (read_text t ≡ Ok s) × Valid s × (text_of s ≡ t)
-ReadsText t (Err e) = (read_text t ≡ Err (e.number, e.line)) × Refused t (e.number, e.line)
+ReadsText t (Err e) = (read_text t ≡ Err (number e.refusal, e.line)) × Refused t (number e.refusal, e.line)

@@ -1,5 +1,6 @@
 -- What the saved text of a roll tells, and what a resume makes of one.
 use Rattle.std.specs.Prelude.{◌≡◌, ℕ, List, Ok, Err, Result}
+use Rattle.refusals.specs.Refusals.{number}
 use Rattle.daybook.specs.States.{State}
 use Rattle.text_laws.specs.Saved.{Saved, read_text}
 use Rattle.text_laws.specs.Valid.{Valid}
@@ -16,4 +17,4 @@ saved_of s = saved_by s.seal s.contents
 -- refused by its number and line, and the roll is as it was
 abbrev pub Resumes : {P : Type 0} → List ℕ → (old new : State P) → Result (Unit {0}) TextFault → Type 0
 Resumes t old new (Ok u) = (new.press ≡ old.press) × (read_text t ≡ Ok (saved_of new)) × Valid (saved_of new) × (text_of (saved_of new) ≡ t)
-Resumes t old new (Err e) = (new ≡ old) × (read_text t ≡ Err (e.number, e.line)) × Refused t (e.number, e.line)
+Resumes t old new (Err e) = (new ≡ old) × (read_text t ≡ Err (number e.refusal, e.line)) × Refused t (number e.refusal, e.line)
