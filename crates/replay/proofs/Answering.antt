@@ -1,9 +1,9 @@
 -- What a call answers, in the daybook's words.
-use Rattle.std.proofs.Common.{◌≡◌, ℕ, ◌≤◌, min, false, cond, eqb, List, [], ◌++◌, length, take, drop, IfOk, Ok, Err, Result, sym, refl, ap, ◌∙◌, ap₂, arith}
+use Rattle.std.proofs.Common.{◌≡◌, ℕ, ◌≤◌, false, eqb, List, [], ◌++◌, length, take, drop, IfOk, Ok, Err, Result, sym, refl, ap, ◌∙◌, ap₂, arith}
 use Rattle.press.specs.Meaning.{Meaning}
 use Rattle.std.proofs.lemmas.List.{append_assoc, append-nil, take_at, take_all, drop_all, length-take-le}
 use Rattle.std.proofs.lemmas.Bool.Decides.{nat_tests}
-use Rattle.refusals.specs.Refusals.{number, outcome, ship_refusal, buffer_refusal}
+use Rattle.refusals.specs.Refusals.{number, outcome, ship_refusal}
 use Rattle.refusals.specs.declared.refusal.Refusal.{Refusal}
 use Rattle.refusals.specs.declared.refusal.Refusal.TheVariants.{Size, Bytes, Bits, Buffer, Length, Full, Standing, Serial, Form, Price, Shipped as Gone, Unknown, Empty, Line, Values, Request as NotAllowed}
 use Rattle.daybook.specs.Contents.{contents_length}
@@ -14,12 +14,9 @@ use Rattle.text_laws.specs.Saved.{read_text}
 use Rattle.saved_text.specs.Snapshots.{Saves}
 use Rattle.rolls.specs.Buffers.{Writes}
 use Rattle.rolls.specs.Texts.{saved_of}
-use Rattle.replay.specs.Heard.{answered, turn_open, turn_kept}
+use Rattle.replay.specs.Heard.{answered}
 use Rattle.replay.specs.Stands.{Answers, SavesText}
-use Rattle.replay.specs.declared.request.Request.{Request}
-use Rattle.replay.specs.declared.request.Request.TheVariants.{Close, Reopen, Pass, Cancel, Ship, Save, Resume}
 use Rattle.replay.specs.declared.request.Answer.{Answer}
-use Rattle.replay.specs.declared.request.Answer.TheVariants.{Refused}
 
 -- no refusal has the number 0
 pub not_zero : (e : Refusal) → eqb (number e) 0 ≡ false
@@ -39,43 +36,6 @@ not_zero Empty = refl
 not_zero Line = refl
 not_zero Values = refl
 not_zero NotAllowed = refl
-
--- so a call is answered by the refusal with its number
-pub told_refusal : (e : Refusal) (a : Answer) → Refused e ≡ answered (number e) a
-told_refusal Size a = refl
-told_refusal Bytes a = refl
-told_refusal Bits a = refl
-told_refusal Buffer a = refl
-told_refusal Length a = refl
-told_refusal Full a = refl
-told_refusal Standing a = refl
-told_refusal Serial a = refl
-told_refusal Form a = refl
-told_refusal Price a = refl
-told_refusal Gone a = refl
-told_refusal Unknown a = refl
-told_refusal Empty a = refl
-told_refusal Line a = refl
-told_refusal Values a = refl
-told_refusal NotAllowed a = refl
-
--- after a save any request but a resume and a reopen is one to an open roll
-pub kept_else : (size : ℕ) (calls : List Call) (q : Request) → (q ≡ Resume → ⊥) → (q ≡ Reopen → ⊥) → turn_kept size calls q ≡ turn_open size calls q
-kept_else size calls Close a b = refl
-kept_else size calls Reopen a b = absurd (b refl)
-kept_else size calls (Pass m) a b = refl
-kept_else size calls (Cancel n) a b = refl
-kept_else size calls (Ship n) a b = refl
-kept_else size calls (Save n) a b = refl
-kept_else size calls Resume a b = absurd (a refl)
-
--- bytes past the 64th make no difference to a ship
-pub room_ship : (room waiting : ℕ) → ship_refusal (min room 64) waiting ≡ ship_refusal room waiting
-room_ship room waiting = ap (λ b. cond b 4 (cond (eqb waiting 0) 13 0)) (grind (arith, nat_tests))
-
--- bytes past any that are written make none either
-pub room_write : (room most n : ℕ) → n ≤ most → buffer_refusal (min room most) n ≡ buffer_refusal room n
-room_write room most n h = grind (arith, nat_tests)
 
 some_room : (m w : ℕ) → 0 ≡ ship_refusal m w → 64 ≤ m
 some_room m w e = grind (arith, nat_tests)

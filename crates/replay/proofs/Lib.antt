@@ -1,4 +1,3 @@
 pub mod Answering
 pub mod Numbered
-pub mod Resuming
 pub mod Rows

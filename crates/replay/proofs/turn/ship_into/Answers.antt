@@ -1,12 +1,12 @@
-use Rattle.std.proofs.Common.{◌≡◌, ℕ, ◌-◌, min, length, take, ap, ◌∙◌, arith}
+use Rattle.std.proofs.Common.{◌≡◌, ◌-◌, ℕ, length, take, ap, ◌∙◌, arith}
 use Rattle.std.proofs.lemmas.List.{length-take-le}
-use Rattle.refusals.specs.Refusals.{outcome, ship_refusal}
+use Rattle.refusals.specs.Refusals.{ship_refusal}
 use Rattle.daybook.specs.Contents.{oldest}
-use Rattle.replay.proofs.Answering.{room_ship, shipped_block}
+use Rattle.replay.proofs.Answering.{shipped_block}
 use Rattle.replay.proofs.turn.ship_into.Goals as goal
 
-pub returns : goal.returns
-returns g c =
+pub returns-clause-written : goal.returns-clause-written
+returns-clause-written g c =
     let k = c.args.roll.now.contents in
     let block = c.args.block.now in
     let m = c.min.result - 0 in
@@ -14,10 +14,4 @@ returns g c =
     let w = length k.window in
     let lb = c.told-block in
     let l : length (take m block) ≡ m = length-take-le m block (omega (arith, c.min.ensures)) in
-    let same : m ≡ min c.args.room 64 = omega (arith, c.min.ensures) in
-    let a : outcome c.ship.result ≡ ship_refusal m w = e.answer ∙ ap (λ (n : ℕ). ship_refusal n w) l in
-    record {
-      answer = a ∙ ap (λ (n : ℕ). ship_refusal n w) same ∙ room_ship c.args.room w;
-      after = e.after;
-      written = shipped_block c.ship.result m w (oldest k) (take m block) c.ship.new.out block lb l (omega (arith, c.min.ensures)) a e.written;
-    }
+    shipped_block c.ship.result m w (oldest k) (take m block) c.ship.new.out block lb l (omega (arith, c.min.ensures)) (e.answer ∙ ap (λ (n : ℕ). ship_refusal n w) l) e.written
