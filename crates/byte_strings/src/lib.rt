@@ -8,7 +8,7 @@ ghost use Rattle.byte_strings.specs.Bytes.{xored};
 pub fn xor_into(bytes: &mut [u8], mask: &[u8])
     ensures { bytes.new ≡ xored bytes.old mask.now }
 {
-    // Kept: the proof doesn't close over `bytes.iter_mut().zip(mask)`, after which it knows only how long `bytes` is.
+    // Kept: by place, since the proof doesn't close over `bytes.iter_mut().zip(mask)`, after which it knows only how long `bytes` is.
     let both = bytes.len().min(mask.len());
     for (i, m) in mask[..both].iter().enumerate() {
         bytes[i] ^= m;

@@ -9,6 +9,7 @@ use crate::hex::bytes;
 use refusals::refusal::Refusal;
 
 // A refusal of a field: why, and the line that the field stands on.
+// Kept: a type of its own, as for a line and for a text: each layer answers its own fault, and `?` carries it on.
 #[derive(Clone, Copy, PartialEq, Eq, Debug)]
 pub struct FieldFault {
     pub refusal: Refusal,

@@ -47,6 +47,7 @@ fn unhex<const N: usize>(field: &[u8]) -> [u8; N]
 {
     let (pairs, _) = field.as_chunks::<2>();
     let mut out = [0; N];
+    // Kept: written by place, since after `out.iter_mut().zip(pairs)` the proof knows only how many bytes there are.
     for (i, [high, low]) in pairs.iter().enumerate() {
         out[i] = byte(*high, *low);
     }

@@ -47,6 +47,7 @@ impl<const N: usize> Elements<N> {
     }
 
     // Each element goes through the S-box, `s0` or `s1`, that its bit of `constant` chooses.
+    // Kept: that the bits are as many as the elements is a clause here and of the two rounds, since no const argument can be N / 4.
     fn substitute(&mut self, constant: &[u8], s0: &[u8; 16], s1: &[u8; 16])
         requires matched { N ≡ 4 * length constant.now }
         requires elements { (bit : _) (a : ℕ) → a < 16 → chosen s0.now s1.now bit a < 16 }
@@ -64,6 +65,7 @@ impl<const N: usize> Elements<N> {
         ensures { EachPair (F.post layer) self.old self.new }
     {
         let from = self.places;
+        // Kept: written by place, here and in the two below, since of chunks that were lent to be written a proof knows only how many there are.
         for (i, &[a, b]) in from.as_chunks::<2>().0.iter().enumerate() {
             let (c, d) = layer((a, b));
             self.places[2 * i] = c;

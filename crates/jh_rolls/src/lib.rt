@@ -21,6 +21,7 @@ use rolls::state::ClosedRoll;
 
 // Writes the digest of a closed roll; refuses a shorter buffer. Over a permutation that means E8 it is JH of the standing passages,
 // by whatever calls the roll came.
+// Kept: beside the call over any press, which cannot name JH in its contract.
 pub fn digest<P: Permutation>(roll: &ClosedRoll<JhPress<P>>, out: &mut [u8]) -> Result<(), Refusal>
     ensures answer { outcome result ≡ buffer_refusal (length out.old) (digest_length roll.now) }
     ensures written { Writes result (digest_length roll.now) (digest_in roll.now) out.old out.new }
@@ -31,6 +32,7 @@ pub fn digest<P: Permutation>(roll: &ClosedRoll<JhPress<P>>, out: &mut [u8]) -> 
 
 // Opens a roll of that size over the JH press and makes the requests on it, one after the other, as `replay` does over any press.
 // Over a permutation that means E8, a roll that is then closed tells JH of its standing passages.
+// Kept: beside the one over any press, which cannot name JH in its contract.
 pub fn replay_jh<P: Permutation + Copy>(
     press: JhPress<P>,
     size: u32,

@@ -5,6 +5,7 @@ use crate::midstate::Midstate;
 use refusals::size::DigestSize;
 
 // A press, a digest size, and how far a message is taken in.
+// Kept: no model: the message that it was fed is no value of its fields, so what it stands for is a relation, `Stands`.
 #[derive(Drop)]
 pub struct Feeder<P> {
     pub(crate) press: P,

@@ -4,6 +4,7 @@ pub struct Passage {
     pub gate: u32,
     pub serial: u32,
     pub time: u64,
+    // Kept: a number, as the version is: any byte may stand there until a call tests the form and refuses it.
     pub class: u8,
     // The version of the tariff table.
     pub version: u8,

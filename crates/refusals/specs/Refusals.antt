@@ -1,5 +1,5 @@
 -- When a call is refused, by number; 0 where it is accepted. The first sentence that a call meets decides.
-use Rattle.std.specs.Prelude.{◌≡◌, ℕ, ◌+◌, ◌*◌, ◌/◌, ◌^◌, Bool, cond, not, ◌&&◌, Ok, Err, Result, ◌==◌, nat_le, nat_lt, MatchResult}
+use Rattle.std.specs.Prelude.{◌≡◌, ℕ, ◌+◌, ◌-◌, ◌*◌, ◌/◌, ◌^◌, Bool, cond, not, ◌&&◌, List, [], ◌∷◌, slice_index_or, Ok, Err, Result, ◌==◌, nat_le, nat_lt, MatchResult}
 use Rattle.refusals.specs.declared.refusal.Refusal.{Refusal}
 use Rattle.refusals.specs.declared.refusal.Refusal.TheVariants.{Size, Bytes, Bits, Buffer, Length, Full, Standing, Serial, Form, Price, Shipped, Unknown, Empty, Line, Values, Request}
 use Rattle.refusals.specs.declared.size.DigestSize.{DigestSize}
@@ -23,6 +23,15 @@ number Empty = 13
 number Line = 14
 number Values = 15
 number Request = 16
+
+-- the refusals by their numbers, from 1 on
+abbrev pub refusals : List Refusal
+refusals =
+    Size ∷ (Bytes ∷ (Bits ∷ (Buffer ∷ (Length ∷ (Full ∷ (Standing ∷ (Serial ∷ (Form ∷ (Price ∷ (Shipped ∷ (Unknown ∷ (Empty ∷ (Line ∷ (Values ∷ (Request ∷ [])))))))))))))))
+
+-- the refusal with that number
+abbrev pub refusal_of : ℕ → Refusal
+refusal_of n = slice_index_or refusals (n - 1) Request
 
 -- what a call answered: 0, or the number of its refusal
 abbrev pub outcome : {T : Type 0} → Result T Refusal → ℕ

@@ -1,9 +1,8 @@
 -- Each refusal in the daybook is that of its number.
 use Rattle.std.proofs.Common.{◌≡◌, ℕ, Bool, true, false, cond, refl, ◌==◌}
-use Rattle.refusals.specs.Refusals.{number}
+use Rattle.refusals.specs.Refusals.{number, refusal_of}
 use Rattle.daybook.specs.Daybook.{Call, Daybook, refusal}
 use Rattle.daybook.specs.Daybook.Call.{passing, cancelling, shipping, closing, reopening, saving, resuming}
-use Rattle.replay.specs.Heard.{refusal_of}
 
 -- n is 0, or the number of a refusal
 abbrev pub Numbered : ℕ → Type 0

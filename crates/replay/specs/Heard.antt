@@ -1,8 +1,7 @@
 -- A row of requests, heard by the daybook alone: the calls that it comes to, and what each request is answered.
-use Rattle.std.specs.Prelude.{ℕ, ◌-◌, ◌/◌, cond, List, [], ◌∷◌, ◌++◌, length, drop, replicate, fold, ◌==◌, slice_index_or}
+use Rattle.std.specs.Prelude.{ℕ, ◌-◌, ◌/◌, cond, List, [], ◌∷◌, ◌++◌, length, drop, replicate, fold, ◌==◌}
 use Rattle.press.specs.Meaning.{Meaning}
-use Rattle.refusals.specs.declared.refusal.Refusal.{Refusal}
-use Rattle.refusals.specs.declared.refusal.Refusal.TheVariants.{Size, Bytes, Bits, Buffer, Length, Full, Standing, Serial, Form, Price, Shipped as Gone, Unknown, Empty, Line, Values, Request as NotAllowed}
+use Rattle.refusals.specs.Refusals.{refusal_of}
 use Rattle.daybook.specs.Daybook.{Call, Daybook, daybook, refusal, next_out, saved_length, cents_of, seal_of, closed_seal_of}
 use Rattle.daybook.specs.Daybook.Call.{passing, cancelling, shipping, closing, reopening, saving, resuming}
 use Rattle.roll_contents.specs.declared.contents.Total.{Total}
@@ -31,15 +30,6 @@ pub record Turn : Type 0 where
 -- a request that the state of the roll does not allow changes nothing, and is no part of the course
 abbrev pub skipped : Phase → List Call → Turn
 skipped f calls = record { phase = f; calls = calls; answer = Skipped }
-
--- the refusals by their numbers, from 1 on
-abbrev pub refusals : List Refusal
-refusals =
-    Size ∷ (Bytes ∷ (Bits ∷ (Buffer ∷ (Length ∷ (Full ∷ (Standing ∷ (Serial ∷ (Form ∷ (Price ∷ (Gone ∷ (Unknown ∷ (Empty ∷ (Line ∷ (Values ∷ (NotAllowed ∷ [])))))))))))))))
-
--- the refusal with that number
-abbrev pub refusal_of : ℕ → Refusal
-refusal_of n = slice_index_or refusals (n - 1) NotAllowed
 
 -- a call that meets no refusal is answered so, another by the refusal with its number
 abbrev pub answered : ℕ → Answer → Answer

@@ -35,8 +35,7 @@ Answers {P = P} means s c accepted a s' =
     (p : P) (size : ℕ) (calls : List Call) → Came means p s size calls
     → (a ≡ answered (refusal (daybook size calls) c) (accepted (daybook size calls))) × Came means p s' size (calls ++ c ∷ [])
 
--- Kept: the three functions of a press stand beside one another; a clause would have to make a record of them first,
--- `functions P.means`, which is longer than the three names.
+-- what each press of a kind means; the press that a roll was opened over, and its size
 module _ {P : Type 0} (means : P → Meaning) (p : P) (size : ℕ) where
   -- the roll stands in that phase, and came by these calls
   abbrev pub Stands : Roll P → Phase → List Call → Type 0

@@ -44,6 +44,7 @@ fn run<P: Press + Drop>(roll: OpenRoll<P>, requests: &[Request], answers: &mut [
     ensures { Runs P.means roll requests.now answers.old answers.new result }
 {
     let mut roll = Roll::Open(roll);
+    // Kept: answered by place, since after `zip(answers.iter_mut())` the proof knows only how many answers there are.
     for (i, request) in requests.iter().enumerate() {
         let (next, answer) = turn(roll, request);
         roll = next;

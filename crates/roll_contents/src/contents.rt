@@ -6,6 +6,7 @@ ghost use Rattle.window.specs.Listed.{listed};
 use refusals::size::DigestSize;
 use window::window::Window;
 
+// Kept: seen by `contents_of` and not by a model: it is Copy, and the 64 bytes of each passage in that view do not give its fields back.
 #[derive(Clone, Copy)]
 pub struct RollContents {
     pub(crate) size: DigestSize,

@@ -62,6 +62,7 @@ impl<P: Press> Seal<P> {
     }
 
     // Writes the last `n` bytes of the chain value to the front of the buffer; refuses a shorter buffer.
+    // Kept: beside the tail that a midstate writes, which refuses nothing: its callers test the buffer before they change anything.
     pub(crate) fn write(&self, n: usize, out: &mut [u8]) -> Result<(), Refusal>
         requires { n ≤ 128 }
         ensures answer { outcome result ≡ buffer_refusal (length out.old) n }

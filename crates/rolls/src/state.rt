@@ -20,6 +20,7 @@ impl<P> Model for OpenRoll<P> {
 }
 
 // A closed roll: its seal is stepped with the ending block.
+// Kept: of the same fields as an open one and with the same view, since a moved type for each state is what refuses wrong calls.
 #[derive(Drop)]
 pub struct ClosedRoll<P> {
     pub(crate) seal: Seal<P>,

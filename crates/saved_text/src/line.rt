@@ -24,6 +24,7 @@ pub enum Line<'a> {
 }
 
 // A refusal of a line: why, and which line.
+// Kept: a type of its own, as for a field and for a text: each layer answers its own fault, and `?` carries it on.
 #[derive(Clone, Copy, PartialEq, Eq, Debug)]
 pub struct LineFault {
     pub refusal: Refusal,

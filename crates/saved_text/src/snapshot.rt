@@ -20,6 +20,7 @@ pub struct Snapshot {
 }
 
 // A refusal of a saved text: why, and the line that is wrong, counted from 1.
+// Kept: a type of its own, as for a field and for a line: each layer answers its own fault, and `?` carries it on.
 #[derive(Clone, Copy, Debug, PartialEq, Eq)]
 pub struct TextFault {
     pub refusal: Refusal,

@@ -2,11 +2,11 @@
 use Rattle.std.proofs.Common.{◌≡◌, ℕ, Bool, true, false, cond, eqb, List, [], ◌∷◌, ◌++◌, sym, refl, ap, ◌∙◌, subst, arith}
 use Rattle.press.specs.Meaning.{Meaning}
 use Rattle.std.proofs.lemmas.List.Sums.{fold_push}
-use Rattle.refusals.specs.Refusals.{number}
+use Rattle.refusals.specs.Refusals.{number, refusal_of}
 use Rattle.refusals.specs.Sizes.{bits_in}
 use Rattle.daybook.specs.Daybook.{Call, daybook, next, unwritten, refusal, next_out}
 use Rattle.daybook.specs.Daybook.Call.{passing, cancelling, shipping, closing}
-use Rattle.replay.specs.Heard.{opened, shut, Turn, turn_open, turn_shut, answered, digest_at, refusal_of}
+use Rattle.replay.specs.Heard.{opened, shut, Turn, turn_open, turn_shut, answered, digest_at}
 use Rattle.replay.specs.Stands.{Stands}
 use Rattle.replay.proofs.Numbered.{Numbered, numbered}
 use Rattle.replay.specs.declared.request.Request.{Request}

@@ -18,7 +18,7 @@ use replay::request::{Answer, Reading};
 use replay::roll::Roll;
 
 // What a line tells of the answer to a call; 16 where the state of the roll does not allow it. No line asks for a save.
-// Kept: no `From`, since both types belong to other crates.
+// Kept: no plainer by `From`, since both types are of other crates and a wrapper of one would only be unwrapped here.
 pub(crate) fn line_answer(answer: Answer) -> LineAnswer
     ensures { said result ≡ told answer }
 {

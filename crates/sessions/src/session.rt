@@ -80,8 +80,7 @@ fn request<J: Press + Drop, D: Press + Drop>(
 ) -> (Session<J, D>, LineAnswer)
     ensures { Answers J.means D.means session request.now result.0 result.1 }
 {
-    // Kept: a function for both arms would take the variant, whose type names the other press too; the borrow checker has no
-    // proof of such a call.
+    // Kept: two arms of two lines are plainer than a function that takes the variant as a closure.
     match session {
         Session::Unopened(jh, drill) => first(jh, drill, request),
         Session::Jh(roll) => {

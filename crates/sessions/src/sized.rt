@@ -16,7 +16,7 @@ use replay::turn::turn;
 use requests::request::LineRequest;
 
 // The call that a request makes on a roll; none for one that makes none.
-// Kept: no `From`, since both types belong to other crates.
+// Kept: no plainer by `From`, since both types are of other crates and a wrapper of one would only be unwrapped here.
 fn call_of<'a>(request: &'a LineRequest) -> Option<Request<'a>>
     ensures { Calls request.now result }
 {

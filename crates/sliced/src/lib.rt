@@ -16,6 +16,7 @@ use state::State;
 #[derive(Clone, Copy)]
 pub struct Sliced;
 
+// Kept: the same members as the grouped form's, each of one line, since each form says for itself that it means E8.
 impl Permutation for Sliced {
     ghost image = { λ _. e8 };
 

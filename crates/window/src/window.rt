@@ -4,6 +4,7 @@ ghost use Rattle.std.specs.Prelude.{◌≡◌, ◌≤◌, length};
 use crate::limits::MOST_WAITING;
 use passages::passage::Passage;
 
+// Kept: an array and a count, a plain struct in fixed memory; no heap may be used here, and callers copy a window.
 #[derive(Clone, Copy)]
 pub struct Window {
     pub(crate) places: [Passage; MOST_WAITING],

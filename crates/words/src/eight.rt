@@ -46,6 +46,7 @@ fn read_half(bytes: &[u8; 128], at: usize) -> u64
     u64::from_be_bytes(half)
 }
 
+// Kept: that 128 bytes stand there afterwards is a clause of all three writes, since a model of the bytes would be unwrapped at each call.
 fn write_word(bytes: &mut [u8; 128], k: usize, word: Word)
     requires { k < 8 }
     ensures here { WordAt bytes.new k word }
