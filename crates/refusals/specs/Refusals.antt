@@ -1,5 +1,5 @@
 -- When a call is refused, by number; 0 where it is accepted. The first sentence that a call meets decides.
-use Rattle.std.specs.Prelude.{◌≡◌, ℕ, ◌+◌, ◌-◌, ◌*◌, ◌/◌, ◌^◌, Bool, cond, not, ◌&&◌, List, [], ◌∷◌, slice_index_or, Ok, Err, Result, ◌==◌, nat_le, nat_lt, MatchResult}
+use Rattle.std.specs.Prelude.{◌≡◌, ℕ, ◌+◌, ◌-◌, ◌*◌, ◌/◌, ◌^◌, Bool, cond, not, ◌&&◌, List, [], ◌∷◌, slice_index_or, refl, Ok, Err, Result, ◌==◌, nat_le, nat_lt, MatchResult}
 use Rattle.refusals.specs.declared.refusal.Refusal.{Refusal}
 use Rattle.refusals.specs.declared.refusal.Refusal.TheVariants.{Size, Bytes, Bits, Buffer, Length, Full, Standing, Serial, Form, Price, Shipped, Unknown, Empty, Line, Values, Request}
 use Rattle.refusals.specs.declared.size.DigestSize.{DigestSize}
@@ -32,6 +32,25 @@ refusals =
 -- the refusal with that number
 abbrev pub refusal_of : ℕ → Refusal
 refusal_of n = slice_index_or refusals (n - 1) Request
+
+-- each refusal is the one with its number
+pub numbered_back : (e : Refusal) → refusal_of (number e) ≡ e
+numbered_back Size = refl
+numbered_back Bytes = refl
+numbered_back Bits = refl
+numbered_back Buffer = refl
+numbered_back Length = refl
+numbered_back Full = refl
+numbered_back Standing = refl
+numbered_back Serial = refl
+numbered_back Form = refl
+numbered_back Price = refl
+numbered_back Shipped = refl
+numbered_back Unknown = refl
+numbered_back Empty = refl
+numbered_back Line = refl
+numbered_back Values = refl
+numbered_back Request = refl
 
 -- what a call answered: 0, or the number of its refusal
 abbrev pub outcome : {T : Type 0} → Result T Refusal → ℕ

@@ -2,7 +2,6 @@
 use Rattle.std.specs.Prelude.{◌≡◌, ℕ, ◌≤◌, List, length, Ok, Err, Result}
 use Rattle.refusals.specs.Refusals.{number}
 use Rattle.refusals.specs.declared.refusal.Refusal.{Refusal}
-use Rattle.refusals.specs.Refusals.{number}
 use Rattle.daybook.specs.Contents.{Contents, contents_length}
 use Rattle.text_laws.specs.Saved.{Saved, read_text}
 use Rattle.text_laws.specs.Valid.{Valid}
