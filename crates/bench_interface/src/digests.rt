@@ -1,5 +1,6 @@
 // Digests of whole messages of bytes.
 ghost use Rattle.std.specs.Prelude.{◌≡◌, ◌*◌, length};
+ghost use Rattle.refusals.specs.Refusals.{outcome};
 ghost use Rattle.jh.specs.Jh.{MeansE8};
 ghost use Rattle.bench_interface.specs.Calls.{refusal, digested};
 
@@ -7,6 +8,7 @@ use grouped::Grouped;
 use jh_digest::whole::digest;
 use jh_press::JhPress;
 use permutation::Permutation;
+use refusals::refusal::Refusal;
 use sliced::Sliced;
 
 // Writes the JH digest of `size` bits of the message to the front of the buffer, by the sliced permutation.
@@ -16,7 +18,7 @@ pub extern "C" fn gobutlin_jh(size: u32, message: &[u8], out: &mut [u8]) -> u32
     ensures answer { result ≡ refusal size message.now out.old }
     ensures written { out.new ≡ digested size message.now out.old }
 {
-    digest_of_bytes(&JhPress::new(Sliced), size, message, out)
+    number(digest_of_bytes(&JhPress::new(Sliced), size, message, out))
 }
 
 // The same by the grouped permutation.
@@ -26,7 +28,17 @@ pub extern "C" fn gobutlin_jh_grouped(size: u32, message: &[u8], out: &mut [u8])
     ensures answer { result ≡ refusal size message.now out.old }
     ensures written { out.new ≡ digested size message.now out.old }
 {
-    digest_of_bytes(&JhPress::new(Grouped), size, message, out)
+    number(digest_of_bytes(&JhPress::new(Grouped), size, message, out))
+}
+
+// 0, or the number of the refusal: C has no Result.
+fn number(answer: Result<(), Refusal>) -> u32
+    ensures { result ≡ outcome answer }
+{
+    match answer {
+        Ok(()) => 0,
+        Err(refusal) => u32::from(u8::from(refusal)),
+    }
 }
 
 fn digest_of_bytes<P: Permutation>(
@@ -34,14 +46,11 @@ fn digest_of_bytes<P: Permutation>(
     size: u32,
     message: &[u8],
     out: &mut [u8],
-) -> u32
+) -> Result<(), Refusal>
     requires { MeansE8 (P.image press.now.permutation) }
-    ensures answer { result ≡ refusal size message.now out.old }
+    ensures answer { outcome result ≡ refusal size message.now out.old }
     ensures written { out.new ≡ digested size message.now out.old }
 {
     let bits = 8 * (message.len() as u64).min(1 << 40);
-    match digest(press, size, message, bits, out) {
-        Ok(()) => 0,
-        Err(refusal) => u32::from(u8::from(refusal)),
-    }
+    digest(press, size, message, bits, out)
 }

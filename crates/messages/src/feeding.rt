@@ -27,6 +27,7 @@ impl<P: Press> Feeder<P> {
         ensures answer { is_ok result ≡ is_size size }
         ensures after { MatchResult result (λ f. Starts P.means press f.size f × (bits_in f.size ≡ size)) (λ d. (d.press ≡ press) × (d.refusal ≡ Refusal.Size)) }
     {
+        // Kept: each side moves the press, which a closure for `map_err` would take from the other.
         match DigestSize::try_from(size) {
             Ok(size) => Ok(Feeder::new(press, size)),
             Err(refusal) => Err(Declined { press, refusal }),

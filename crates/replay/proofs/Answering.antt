@@ -5,7 +5,7 @@ use Rattle.std.proofs.lemmas.List.{append_assoc, append-nil, take_at, take_all, 
 use Rattle.std.proofs.lemmas.Bool.Decides.{nat_tests}
 use Rattle.refusals.specs.Refusals.{number, outcome, ship_refusal}
 use Rattle.refusals.specs.declared.refusal.Refusal.{Refusal}
-use Rattle.refusals.specs.declared.refusal.Refusal.TheVariants.{Size, Bytes, Bits, Buffer, Length, Full, Standing, Serial, Form, Price, Shipped as Gone, Unknown, Empty, Line, Values, Request as NotAllowed}
+use Rattle.refusals.proofs.Numbers.{positive}
 use Rattle.daybook.specs.Contents.{contents_length}
 use Rattle.daybook.specs.States.{State}
 use Rattle.daybook.specs.Daybook.{Call, Daybook, daybook}
@@ -20,22 +20,7 @@ use Rattle.replay.specs.declared.request.Answer.{Answer}
 
 -- no refusal has the number 0
 pub not_zero : (e : Refusal) → eqb (number e) 0 ≡ false
-not_zero Size = refl
-not_zero Bytes = refl
-not_zero Bits = refl
-not_zero Buffer = refl
-not_zero Length = refl
-not_zero Full = refl
-not_zero Standing = refl
-not_zero Serial = refl
-not_zero Form = refl
-not_zero Price = refl
-not_zero Gone = refl
-not_zero Unknown = refl
-not_zero Empty = refl
-not_zero Line = refl
-not_zero Values = refl
-not_zero NotAllowed = refl
+not_zero e = let some = positive e in grind (arith, nat_tests)
 
 some_room : (m w : ℕ) → 0 ≡ ship_refusal m w → 64 ≤ m
 some_room m w e = grind (arith, nat_tests)

@@ -39,6 +39,7 @@ pub fn read<P: Press>(roll: &Roll<P>) -> Reading
 }
 
 // The requests one after the other, on a new roll.
+// Kept: the requests are read and the answers written, two slices of the caller's; a struct of both would be made to be taken apart.
 fn run<P: Press + Drop>(roll: OpenRoll<P>, requests: &[Request], answers: &mut [Answer]) -> Roll<P>
     requires { length requests.now ≤ length answers.old }
     ensures { Runs P.means roll requests.now answers.old answers.new result }

@@ -1,7 +1,7 @@
 // One request on a roll.
-ghost use Rattle.std.specs.Prelude.{◌≡◌, true, IfOk, Ok, OnOk, ◌≢◌};
+ghost use Rattle.std.specs.Prelude.{◌≡◌, IfOk, Ok, OnOk, ◌≢◌};
 ghost use Rattle.refusals.specs.Refusals.{outcome};
-ghost use Rattle.refusals.specs.Sizes.{is_size, bits_in};
+ghost use Rattle.refusals.specs.Sizes.{bits_in};
 ghost use Rattle.daybook.specs.Contents.{refused_ship, refused_save, oldest};
 ghost use Rattle.daybook.specs.States.{after_ship, Leaves};
 ghost use Rattle.daybook.specs.Daybook.{next_out};
@@ -105,13 +105,12 @@ fn save_turn<P: Press>(roll: OpenRoll<P>, room: usize) -> (Roll<P>, Answer)
 }
 
 // Another size than that.
-fn other_size(size: DigestSize) -> u32
-    ensures size { is_size result ≡ true }
-    ensures other { result ≢ bits_in size }
+fn other_size(size: DigestSize) -> DigestSize
+    ensures { bits_in result ≢ bits_in size }
 {
     match size {
-        DigestSize::D512 => 224,
-        _ => 512,
+        DigestSize::D512 => DigestSize::D224,
+        _ => DigestSize::D512,
     }
 }
 
@@ -121,7 +120,7 @@ fn resume_new<P: Press + Drop>(roll: OpenRoll<P>, text: &SavedText) -> OpenRoll<
     ensures told { read_text (text_in text.now) ≡ Ok (saved_of result) }
 {
     let size = other_size(roll.size());
-    let mut fresh = OpenRoll::open(roll.into_press(), size).unwrap();
+    let mut fresh = OpenRoll::new(roll.into_press(), size);
     fresh.resume(text.as_slice()).unwrap();
     fresh
 }

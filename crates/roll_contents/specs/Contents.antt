@@ -17,9 +17,9 @@ contents_of k =
     record {
       size = bits_in k.size;
       window = listed k.window;
-      shipped = k.shipped;
-      last = k.last_shipped;
-      cents = k.cents_shipped;
+      shipped = k.shipped.count;
+      last = k.shipped.last;
+      cents = k.shipped.cents;
     }
 
 -- the charged cents and the count of all standing passages

@@ -8,6 +8,7 @@ ghost use Rattle.window.specs.Listed.{Found};
 ghost use Rattle.roll_contents.specs.Contents.{contents_of, total_of, Admits, Enters, less_one, Sends};
 
 use crate::contents::{RollContents, Total};
+use crate::shipped::Shipped;
 use passages::passage::Passage;
 use refusals::refusal::Refusal;
 use refusals::size::DigestSize;
@@ -22,9 +23,7 @@ impl RollContents {
         RollContents {
             size,
             window: Window::new(),
-            shipped: 0,
-            last_shipped: 0,
-            cents_shipped: 0,
+            shipped: Shipped::none(),
         }
     }
 
@@ -47,7 +46,7 @@ impl RollContents {
         ensures value { result ≡ standing_count (contents_of self.now) }
         ensures bound { result ≤ 1000000 }
     {
-        self.shipped + self.window.len() as u32
+        self.shipped.count + self.window.len() as u32
     }
 
     // The passage in these bytes, if it may be passed now.
@@ -62,7 +61,7 @@ impl RollContents {
         if self.standing() >= MOST_STANDING {
             return Err(Refusal::Standing);
         }
-        let last = self.window.last_serial(self.last_shipped);
+        let last = self.window.last_serial(self.shipped.last);
         Passage::decode_after(last, block)
     }
 
@@ -71,7 +70,7 @@ impl RollContents {
         ensures answer { outcome result ≡ refused_cancel (contents_of self.now) sought }
         ensures place { IfOk result (λ i. Found sought (contents_of self.now).window i) }
     {
-        if self.shipped > 0 && sought <= self.last_shipped {
+        if self.shipped.count > 0 && sought <= self.shipped.last {
             return Err(Refusal::Shipped);
         }
         self.window.find(sought).ok_or(Refusal::Unknown)
@@ -100,9 +99,7 @@ impl RollContents {
         ensures { Sends (contents_of self.old) (contents_of self.new) result }
     {
         let passage = self.window.remove(0)?;
-        self.shipped += 1;
-        self.last_shipped = passage.serial;
-        self.cents_shipped += u64::from(passage.charged);
+        self.shipped.take_one(&passage);
         Some(passage)
     }
 
@@ -111,7 +108,7 @@ impl RollContents {
         ensures { result ≡ total_of (contents_of self.now) }
     {
         Total {
-            cents: self.cents_shipped + self.window.cents(),
+            cents: self.shipped.cents + self.window.cents(),
             count: self.standing(),
         }
     }

@@ -4,3 +4,4 @@
 pub mod contents;
 mod keeping;
 pub mod saving;
+mod shipped;

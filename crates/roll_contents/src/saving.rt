@@ -8,6 +8,7 @@ ghost use Rattle.roll_contents.specs.Contents.{contents_of};
 ghost use Rattle.roll_contents.specs.Texts.{contents_in, WritesText, ReadsText};
 
 use crate::contents::RollContents;
+use crate::shipped::Shipped;
 use press::Chain;
 use refusals::refusal::Refusal;
 use saved_text::reading::read;
@@ -28,9 +29,11 @@ fn contents_in(snapshot: &Snapshot) -> RollContents
     RollContents {
         size: snapshot.size,
         window: snapshot.window,
-        shipped: snapshot.shipped,
-        last_shipped: snapshot.last,
-        cents_shipped: snapshot.cents,
+        shipped: Shipped {
+            count: snapshot.shipped,
+            last: snapshot.last,
+            cents: snapshot.cents,
+        },
     }
 }
 
@@ -42,9 +45,9 @@ impl RollContents {
     {
         let snapshot = Snapshot {
             size: self.size,
-            shipped: self.shipped,
-            last: self.last_shipped,
-            cents: self.cents_shipped,
+            shipped: self.shipped.count,
+            last: self.shipped.last,
+            cents: self.shipped.cents,
             chain: *seal,
             window: self.window,
         };

@@ -5,12 +5,6 @@ use Rattle.refusals.specs.Sizes.{bits_in, is_size}
 use Rattle.refusals.specs.declared.size.DigestSize.{DigestSize}
 use Rattle.refusals.specs.declared.size.DigestSize.TheVariants.{D224, D256, D384, D512}
 
-pub size_is : (s : DigestSize) → is_size (bits_in s) ≡ true
-size_is D224 = refl
-size_is D256 = refl
-size_is D384 = refl
-size_is D512 = refl
-
 named : (n : ℕ) (a b c d : Bool) → (n == 224) ≡ a → (n == 256) ≡ b → (n == 384) ≡ c → (n == 512) ≡ d → (a || (b || (c || d))) ≡ true
     → (s : DigestSize) × (bits_in s ≡ n)
 named n true b c d e f g h k = (D224, sym (eqb-true n 224 e))

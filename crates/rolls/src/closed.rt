@@ -16,7 +16,7 @@ use roll_contents::contents::Total;
 
 impl<P: Press> ClosedRoll<P> {
     // Writes the digest, the last size / 8 bytes of the closed seal; refuses a shorter buffer.
-    #[tactic(auto, using(crate::proofs::Sizes::size_is))]
+    #[tactic(auto, using(roll_contents::proofs::Texts::sized))]
     pub fn digest(&self, out: &mut [u8]) -> Result<(), Refusal>
         ensures answer { outcome result ≡ buffer_refusal (length out.old) (digest_length self.now) }
         ensures written { Writes result (digest_length self.now) (digest_in self.now) out.old out.new }

@@ -4,7 +4,7 @@ ghost use Rattle.byte_strings.specs.Bytes.{Bytes};
 ghost use Rattle.refusals.specs.Refusals.{outcome, buffer_refusal};
 ghost use Rattle.refusals.specs.Sizes.{bits_in};
 ghost use Rattle.daybook.specs.Contents.{refused_pass, refused_cancel, refused_ship, oldest};
-ghost use Rattle.daybook.specs.States.{after_pass, after_cancel, after_ship, after_close, Leaves};
+ghost use Rattle.daybook.specs.States.{after_open, after_pass, after_cancel, after_ship, after_close, Leaves};
 ghost use Rattle.roll_contents.specs.Contents.{total_of};
 ghost use Rattle.rolls.specs.Buffers.{Writes};
 ghost use Rattle.rolls.specs.Rolls.{Opens};
@@ -17,16 +17,23 @@ use refusals::size::DigestSize;
 use roll_contents::contents::{RollContents, Total};
 
 impl<P: Press> OpenRoll<P> {
+    // A new roll of that digest size.
+    pub fn new(press: P, size: DigestSize) -> OpenRoll<P>
+        ensures { result ≡ after_open P.means press (bits_in size) }
+    {
+        OpenRoll {
+            seal: Seal::open(press, size),
+            contents: RollContents::new(size),
+        }
+    }
+
     // Opens a roll of that digest size, in bits; refuses a size that is none of the four, and hands the press back.
     pub fn open(press: P, size: u32) -> Result<OpenRoll<P>, Declined<P>>
         ensures { Opens P.means press size result }
     {
         // Kept: each side moves the press, which a closure for `map_err` would take from the other.
         match DigestSize::try_from(size) {
-            Ok(size) => Ok(OpenRoll {
-                seal: Seal::open(press, size),
-                contents: RollContents::new(size),
-            }),
+            Ok(size) => Ok(OpenRoll::new(press, size)),
             Err(refusal) => Err(Declined { press, refusal }),
         }
     }

@@ -17,7 +17,7 @@ invariant_of-self c =
     let new : listed c.push.new.self ≡ ms ++ encoded p ∷ [] = pushed_in ms (encoded p) (listed c.push.new.self) c.push.result a.room c.push.ensures in
     let n = ap length new ∙ length_push ms (encoded p) in
     let s = a.standing in
-    let fits : fits_after (last_serial k.last_shipped ms) (encoded p) ≡ true = ap (fits_after (last_serial k.last_shipped ms)) a.bytes ∙ a.fits in
-    let order : in_order k.last_shipped (listed c.push.new.self) ≡ true =
-    ap (in_order k.last_shipped) new ∙ in_order_push k.last_shipped ms (encoded p) k.order fits in
-    record { standing = omega arith; order = order; serials = k.serials; cents = k.cents; fresh = k.fresh; high = k.high }
+    let fits : fits_after (last_serial k.shipped.last ms) (encoded p) ≡ true = ap (fits_after (last_serial k.shipped.last ms)) a.bytes ∙ a.fits in
+    let order : in_order k.shipped.last (listed c.push.new.self) ≡ true =
+    ap (in_order k.shipped.last) new ∙ in_order_push k.shipped.last ms (encoded p) k.order fits in
+    record { standing = omega arith; order = order }

@@ -14,6 +14,6 @@ invariant_of-self c =
     let n = ap length new in
     let few = removed_few ms c.args.i in
     let s = k.standing in
-    let order : in_order k.last_shipped (listed c.remove.new.self) ≡ true =
-    ap (in_order k.last_shipped) new ∙ in_order_removed k.last_shipped ms c.args.i k.order in
-    record { standing = omega arith; order = order; serials = k.serials; cents = k.cents; fresh = k.fresh; high = k.high }
+    let order : in_order k.shipped.last (listed c.remove.new.self) ≡ true =
+    ap (in_order k.shipped.last) new ∙ in_order_removed k.shipped.last ms c.args.i k.order in
+    record { standing = omega arith; order = order }
