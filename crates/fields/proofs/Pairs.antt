@@ -1,29 +1,23 @@
 -- Digits, two at a time.
-use Rattle.std.proofs.Common.{◌≡◌, ℕ, zero, suc, ◌+◌, ◌*◌, Bool, true, ◌&&◌, List, [], ◌∷◌, length, get_or, map, refl, ap, arith}
-use Rattle.std.specs.List.{list_all}
-use Rattle.std.specs.Simd.{first_chunks}
-use Rattle.std.proofs.lemmas.Bool.{and_parts}
+use Rattle.std.proofs.Common.{◌≡◌, ℕ, zero, suc, ◌+◌, ◌*◌, ◌<◌, true, List, [], ◌∷◌, length, get_or, refl, ap, arith}
+use Rattle.std.proofs.lemmas.List.Recursion.{and_at}
 use Rattle.fields.specs.Hex.{is_hex_digit, all_hex, nibble, bytes_of}
 
--- the byte that two digits write
-abbrev pub pair_byte : List ℕ → ℕ
-pair_byte p = 16 * nibble (get_or p 0 0) + nibble (get_or p 1 0)
+pub digit_at : (xs : List ℕ) (k : ℕ) → all_hex xs ≡ true → k < length xs → is_hex_digit (get_or xs k 0) ≡ true
+digit_at xs k e h = and_at all_hex is_hex_digit refl (λ _ _. refl) xs k 0 h e
 
-abbrev pub pair_is_hex : List ℕ → Bool
-pair_is_hex p = is_hex_digit (get_or p 0 0) && is_hex_digit (get_or p 1 0)
+pub byte_at : (xs : List ℕ) (k : ℕ) → 2 * k + 1 < length xs → get_or (bytes_of xs) k 0 ≡ 16 * nibble (get_or xs (2 * k) 0) + nibble (get_or xs (2 * k + 1) 0)
+byte_at [] k h = absurd (omega (arith, h))
+byte_at (x ∷ []) k h = absurd (omega (arith, h))
+byte_at (x ∷ (y ∷ xs)) zero h = refl
+byte_at (x ∷ (y ∷ xs)) (suc k) h =
+    let high : 2 * suc k ≡ suc (suc (2 * k)) = omega arith in
+    let low : 2 * suc k + 1 ≡ suc (suc (2 * k + 1)) = omega arith in
+    rw (low, high) (byte_at xs k (omega (arith, h)))
 
-pub bytes_of_pairs : (k : ℕ) (xs : List ℕ) → length xs ≡ 2 * k → map pair_byte (first_chunks 2 k xs) ≡ bytes_of xs
-bytes_of_pairs zero [] h = refl
-bytes_of_pairs zero (x ∷ xs) h = absurd (omega (arith, h))
-bytes_of_pairs (suc k) [] h = absurd (omega (arith, h))
-bytes_of_pairs (suc k) (x ∷ []) h = absurd (omega (arith, h))
-bytes_of_pairs (suc k) (x ∷ (y ∷ xs)) h = ap (λ t. pair_byte (x ∷ (y ∷ [])) ∷ t) (bytes_of_pairs k xs (omega (arith, h)))
-
-pub hex_of_pairs : (k : ℕ) (xs : List ℕ) → length xs ≡ 2 * k → all_hex xs ≡ true → list_all pair_is_hex (first_chunks 2 k xs) ≡ true
-hex_of_pairs zero xs h e = refl
-hex_of_pairs (suc k) [] h e = absurd (omega (arith, h))
-hex_of_pairs (suc k) (x ∷ []) h e = absurd (omega (arith, h))
-hex_of_pairs (suc k) (x ∷ (y ∷ xs)) h e =
-    let first = and_parts (is_hex_digit x) (all_hex (y ∷ xs)) e in
-    let second = and_parts (is_hex_digit y) (all_hex xs) first.1 in
-    rw (first.0, second.0) (hex_of_pairs k xs (omega (arith, h)) second.1)
+pub length_bytes : (k : ℕ) (xs : List ℕ) → length xs ≡ 2 * k → length (bytes_of xs) ≡ k
+length_bytes zero [] h = refl
+length_bytes zero (x ∷ xs) h = absurd (omega (arith, h))
+length_bytes (suc k) [] h = absurd (omega (arith, h))
+length_bytes (suc k) (x ∷ []) h = absurd (omega (arith, h))
+length_bytes (suc k) (x ∷ (y ∷ xs)) h = ap suc (length_bytes k xs (omega (arith, h)))

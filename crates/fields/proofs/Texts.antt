@@ -1,16 +1,13 @@
 -- Texts that are written one after another and cut off at n bytes.
-use Rattle.std.proofs.Common.{◌≡◌, ℕ, zero, suc, ◌+◌, ◌-◌, ◌*◌, ◌/◌, ◌%◌, ◌<◌, ◌≤◌, min, List, [], ◌∷◌, ◌++◌, length, get_or, take, drop, sym, refl, ap, ◌∙◌, ⊎_elim, append_assoc, append-nil, suc-add, zero-add, arith, length-append}
+use Rattle.std.proofs.Common.{◌≡◌, ℕ, zero, suc, ◌+◌, ◌-◌, ◌*◌, ◌/◌, ◌%◌, ◌<◌, ◌≤◌, min, List, [], ◌∷◌, ◌++◌, length, get_or, take, drop, sym, refl, ap, ◌∙◌, ⊎_elim, append_assoc, append-nil, arith, length-append}
 use native.Mathlib.Nat.{min-eq_left, min-eq_right}
 use borrow.Rule.Slice.PartMut.{put_mid}
 use Rattle.std.specs.Prelude.{replicate}
 use Rattle.std.proofs.lemmas.Slice.{take-put_mid, drop-put_mid}
 use Rattle.std.proofs.lemmas.List.{drop-drop, drop-replicate, length-drop, take_all, length-take-le, take_more}
 use Rattle.std.proofs.lemmas.Bool.{cases_lt}
+use Rattle.std.proofs.Math.Seq.{take-append-add}
 use Rattle.fields.specs.Hex.{hex_of, hex_digit}
-
-take_past : (u t : List ℕ) (n : ℕ) → take (length u + n) (u ++ t) ≡ u ++ take n t
-take_past [] t n = ap (λ m. take m t) (zero-add n)
-take_past (x ∷ u) t n = ap (λ m. take m (x ∷ (u ++ t))) (suc-add (length u) n) ∙ ap (λ v. x ∷ v) (take_past u t n)
 
 -- as much of t as there is room for
 pub cut_off : (n k : ℕ) (u t : List ℕ) → length u ≤ n → k ≡ min (length t) (n - length u) → u ++ take k t ≡ take n (u ++ t)
@@ -23,7 +20,7 @@ cut_off n k u t h e =
     (λ (l : n - length u ≤ length t).
     let m = e ∙ min-eq_right {n = n - length u} {m = length t} l in
     let s : length u + k ≡ n = omega (arith, m, h) in
-    sym (take_past u t k) ∙ ap (λ j. take j (u ++ t)) s)
+    sym (take-append-add u t k) ∙ ap (λ j. take j (u ++ t)) s)
     (cases_lt (length t) (n - length u))
 
 -- a write of t at the end of the first k of n bytes, as far as it has room

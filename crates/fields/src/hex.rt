@@ -1,6 +1,8 @@
 // Lower-case hexadecimal, two digits to a byte, the high half first.
-ghost use Rattle.std.specs.Prelude.{◌≡◌, ◌+◌, ◌*◌, ◌<◌, true, ◌&&◌, [], ◌∷◌, length, ◌==◌};
+ghost use Rattle.std.specs.Prelude.{◌≡◌, ◌+◌, ◌*◌, ◌<◌, true, ◌&&◌, [], ◌∷◌, length, ◌==◌, slice_index};
 ghost use Rattle.fields.specs.Hex.{is_hex_digit, nibble as nibble_of, all_hex, bytes_of, read_hex, hex_digit, hex_of};
+
+use std::array;
 
 fn is_hex_digit(b: u8) -> bool
     ensures { result ≡ is_hex_digit b }
@@ -23,11 +25,12 @@ fn all_hex(field: &[u8]) -> bool
     field.iter().all(|b| is_hex_digit(*b))
 }
 
-// The byte of two digits, the high half first.
-fn byte(high: u8, low: u8) -> u8
-    requires { (is_hex_digit high ≡ true) × (is_hex_digit low ≡ true) }
-    ensures { result ≡ 16 * nibble_of high + nibble_of low }
+// Byte i that a field writes.
+fn byte_at(field: &[u8], i: usize) -> u8
+    requires { (2 * i + 1 < length field.now) × (all_hex field.now ≡ true) }
+    ensures { result ≡ slice_index (bytes_of field.now) i }
 {
+    let (high, low) = (field[2 * i], field[2 * i + 1]);
     16 * nibble(high) + nibble(low)
 }
 
@@ -45,13 +48,7 @@ fn unhex<const N: usize>(field: &[u8]) -> [u8; N]
     requires { (length field.now ≡ 2 * N) × (all_hex field.now ≡ true) }
     ensures { result ≡ bytes_of field.now }
 {
-    let (pairs, _) = field.as_chunks::<2>();
-    let mut out = [0; N];
-    // Kept: written by place, since after `out.iter_mut().zip(pairs)` the proof knows only how many bytes there are.
-    for (i, [high, low]) in pairs.iter().enumerate() {
-        out[i] = byte(*high, *low);
-    }
-    out
+    array::from_fn(|i| byte_at(field, i))
 }
 
 // The N bytes that a field of 2 N digits writes; none for a field of another length or with another byte.

@@ -1,17 +1,10 @@
 -- One turn of the reader of passages.
-use Rattle.std.proofs.Common.{◌≡◌, ℕ, Bool, false, cond, eqb, suc, ◌+◌, ◌-◌, ◌<◌, List, [], ◌∷◌, ◌++◌, length, Some, None, Ok, Err, Option, Result, sym, ap, ◌∙◌, arith}
-use Rattle.refusals.specs.declared.refusal.Refusal.{Refusal}
+use Rattle.std.proofs.Common.{◌≡◌, ℕ, Bool, false, cond, eqb, suc, ◌+◌, ◌-◌, ◌<◌, List, [], ◌∷◌, ◌++◌, length, Some, None, Ok, Err, Option, sym, ap, ◌∙◌, arith}
 use Rattle.passages.specs.Fields.{serial_of}
-use Rattle.window.specs.Listed.{Pushes}
 use Rattle.fields.specs.Faults.{Read}
 use Rattle.text_laws.specs.Lines.{LineFields, first_line}
 use Rattle.text_laws.specs.Values.{then_read, passage_of}
 use Rattle.text_laws.specs.Saved.{line_at, passages}
-
--- a push into a window with room
-pub pushed : (ms : List (List ℕ)) (m : List ℕ) (ms' : List (List ℕ)) (r : Result (Unit {0}) Refusal) → length ms < 32 → Pushes ms m ms' r → ms' ≡ ms ++ (m ∷ [])
-pushed ms m ms' (Ok u) h p = p.1
-pushed ms m ms' (Err e) h p = let l = p.1 in absurd (omega (arith, h, l))
 
 -- the reader has come to line k, with the passages from line 3 on in got
 abbrev pub Come : (n k last before : ℕ) (got : List (List ℕ)) (rest text : List ℕ) → Type 0

@@ -24,7 +24,7 @@ const MOST_STANDING: u64 = limits::MOST_STANDING as u64;
 const HIGHEST: u64 = u32::MAX as u64;
 
 // The numbers of line 1, as they are read.
-#[derive(Clone, Copy)]
+#[derive(Clone, Copy, Debug, PartialEq, Eq)]
 pub struct LineNumbers {
     pub size: u64,
     pub shipped: u64,
@@ -34,7 +34,7 @@ pub struct LineNumbers {
 }
 
 // The numbers of a valid line 1.
-#[derive(Clone, Copy)]
+#[derive(Clone, Copy, Debug, PartialEq, Eq)]
 pub struct Head {
     pub size: DigestSize,
     pub shipped: u32,
@@ -123,17 +123,13 @@ pub fn chain_of(line: Line, at: u32) -> Result<Chain, LineFault>
 
 // What a later line says; refuses one that is not of its form, then one whose passage may not stand after one with the
 // serial `before`.
-#[tactic(auto, using(crate::proofs::Unfit::unfit))]
 pub fn passage_of(line: Line, at: u32, before: u32) -> Result<Passage, LineFault>
     ensures { MatchResult result (λ p. (passage_of at before (view line.entry) ≡ Ok (encoded p)) × (p.serial ≡ serial_of (encoded p))) (λ e. passage_of at before (view line.entry) ≡ Err (number_of e.refusal, e.line)) }
 {
     match line {
         Line::Pass(digits) => {
             let block: Block = bytes_at(digits, at)?;
-            match Passage::decode_after(before, &block) {
-                Ok(passage) => Ok(passage),
-                Err(_) => Err(LineFault::invalid(at)),
-            }
+            Passage::decode_after(before, &block).map_err(|_| LineFault::invalid(at))
         }
         _ => Err(LineFault::malformed(at)),
     }

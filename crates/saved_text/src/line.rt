@@ -10,7 +10,7 @@ use fields::faults::FieldFault;
 use refusals::refusal::Refusal;
 
 // A line of one of the three kinds. It borrows its fields from the text.
-#[derive(Clone, Copy)]
+#[derive(Clone, Copy, Debug, PartialEq, Eq)]
 pub enum Line<'a> {
     Roll {
         size: &'a [u8],

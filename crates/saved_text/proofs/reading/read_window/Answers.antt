@@ -3,9 +3,10 @@ use Rattle.std.proofs.lemmas.Result.{err_from_is_err_and}
 use Rattle.std.proofs.lemmas.List.{length_push}
 use Rattle.passages.specs.Coding.{encoded}
 use Rattle.window.specs.Listed.{listed}
+use Rattle.window.proofs.Changes.{pushed_in}
 use Rattle.text_laws.specs.Saved.{passages}
 use Rattle.saved_text.specs.Views.{view}
-use Rattle.saved_text.proofs.Turns.{pushed, no_line, no_passage, come_on, come_as, left_over}
+use Rattle.saved_text.proofs.Turns.{no_line, no_passage, come_on, come_as, left_over}
 use Rattle.saved_text.proofs.reading.read_window.Goals as goal
 
 pub loop-at-init : goal.loop-at-init
@@ -39,7 +40,7 @@ loop-at-preserved c =
     let f = come_on c.args.count c.loop-at.at c.args.last c.loop-at.before (listed c.loop-at.window) c.loop-at.rest.now c.args.text.now (omega arith) c.loop-at.invariant.come
     (view c.in_ok-line.line) c.in_ok-line.after.now c.in_ok-line.ensures m read.0 in
     let few = c.loop-at.invariant.long in
-    let g = pushed (listed c.loop-at.window) m (listed c.push.new.self) c.push.result (omega arith) c.push.ensures in
+    let g = pushed_in (listed c.loop-at.window) m (listed c.push.new.self) c.push.result (omega arith) c.push.ensures in
     let longer = ap length g ∙ length_push (listed c.loop-at.window) m in
     record {
       come = come_as c.args.count (c.loop-at.at + 1) c.args.last _ _ _ _ c.in_ok-line.after.now c.args.text.now read.1 g f;
