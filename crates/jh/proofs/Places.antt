@@ -1,5 +1,5 @@
 -- Where a round takes its elements from, place by place, over any number of fours.
-use Rattle.std.proofs.Common.{◌≡◌, ℕ, zero, suc, ◌+◌, ◌-◌, ◌*◌, ◌<◌, ◌≤◌, Bool, true, false, cond, not, T, ltb, List, [], ◌∷◌, length, get_or, sym, refl, ap, ◌∙◌, subst, ap₂, le_of_suc-le-suc, not-suc-le-zero, arith, ltb→lt, nltb→le, length-append}
+use Rattle.std.proofs.Common.{◌≡◌, ℕ, zero, suc, ◌+◌, ◌-◌, ◌*◌, ◌<◌, ◌≤◌, Bool, true, false, cond, not, T, ltb, List, [], ◌∷◌, length, get_or, sym, refl, ap, ◌∙◌, subst, ap₂, le_of_suc-le-suc, not-suc-le-zero, arith, ltb→lt, nltb→le}
 use Rattle.std.proofs.lemmas.List.{get_or_append_left, get_or-append_right}
 use Rattle.jh.specs.Round.{sbox, first, second, boxed, paired, substitute, mix, turn, evens, odds, swapped, permute, round}
 
@@ -166,8 +166,3 @@ module _ {cs : List Bool} {xs : List ℕ} {m : ℕ} (fc : Fours cs m) (fx : Four
       odd_by mixed j h (ltb j m) refl
       ∙ paired_odd first second (substitute cs xs) i (let e = length_fours (boxed_fours sbox fc fx) in omega arith)
       ∙ ap₂ second (box_of (2 * i) (omega arith)) (box_of (2 * i + 1) (omega arith))
-
-  pub round_fours : Fours (round cs xs) m
-  round_fours =
-      let w : List ℕ = mix (substitute cs xs) in
-      fours m (round cs xs) (length-append (front w) (back w) ∙ (let a = front_long mixed in let b = back_long mixed in omega arith))

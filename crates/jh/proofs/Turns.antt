@@ -7,9 +7,9 @@ use Rattle.jh.specs.Permutation.{bits, group, after}
 use Rattle.jh.specs.Inverse.{unpermute, unround, before}
 use Rattle.jh.proofs.Places.{fours, length_fours}
 use Rattle.jh.proofs.Undone.{length_permute}
-use Rattle.jh.proofs.Rounds.{boxed_small, permute_small, unpermute_small, unround_long, unround_small}
+use Rattle.jh.proofs.Rounds.{boxed_small, permute_small, unpermute_small}
 use Rattle.jh.proofs.Grouping.{length_group, group_small}
-use Rattle.jh.proofs.Whole.{constant_fours, constant_undone, bits_fours, length_bits, after_fours}
+use Rattle.jh.proofs.Whole.{constant_fours, constant_undone, length_bits}
 use Rattle.jh.proofs.Layers.{length_boxed}
 use Rattle.jh.proofs.Moves.{length_unpermute}
 
@@ -49,11 +49,6 @@ constant_next r = ap constant (sym (add-one r))
 pub group_row : (x q : List ℕ) → q ≡ group x → Row 256 q
 group_row x q e = subst (Row 256) (sym e) record { long = length_group x; small = group_small x }
 
-pub after_row : (r : ℕ) (q xs : List ℕ) → Row 256 q → xs ≡ after r q → Row 256 xs
-after_row r q xs s e =
-    let f = after_fours r (fours 64 q s.long) s.small in
-    subst (Row 256) (sym e) record { long = length_fours f.0; small = f.1 }
-
 pub after_none : (q : List ℕ) → q ≡ after 0 q
 unfolding after
 after_none q = refl
@@ -83,8 +78,3 @@ before_suc r q = refl
 
 pub before_next : (n r : ℕ) (q : List ℕ) → r < n → before (n - (r + 1)) (unround (bits (constant (n - (r + 1)))) q) ≡ before (n - r) q
 before_next n r q h = sym (ap (λ (k : ℕ). before k q) (left n r h) ∙ before_suc (n - (r + 1)) q)
-
-pub unround_row : (r : ℕ) (q xs : List ℕ) → Row 256 q → xs ≡ unround (bits (constant r)) q → Row 256 xs
-unround_row r q xs s e =
-    let f = fours 64 q s.long in
-    subst (Row 256) (sym e) record { long = length_fours (unround_long (bits_fours r) f s.small); small = unround_small (bits_fours r) f s.small }

@@ -6,8 +6,8 @@ use messages::feeder::Feeder;
 use refusals::size::DigestSize;
 
 // A feeder over the JH press.
-// Kept: the methods of `Feeder`, which holds for any press, cannot name JH in their contracts, and a type of another crate takes no methods
-// here; so this one hands on each call, and no plainer form says as much.
+// Kept: feeding and finishing are to be methods on `&mut self`, and their contracts here name JH. The methods of `Feeder`, which holds for any
+// press, cannot, and as another crate's type it takes no methods here; so this type of our own hands on each call.
 #[derive(Drop)]
 pub struct JhFeeder<P> {
     pub(crate) feeder: Feeder<JhPress<P>>,

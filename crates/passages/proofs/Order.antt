@@ -5,9 +5,6 @@ use Rattle.std.specs.List.{remove}
 use Rattle.passages.specs.Fields.{serial_of, formed, priced, fits_after}
 use Rattle.passages.specs.Rows.{last_serial, in_order}
 
-pub fits_made : (n : ℕ) (m : List ℕ) → n < serial_of m → formed m ≡ true → priced m ≡ true → fits_after n m ≡ true
-fits_made n m l f p = and_from (ltb n (serial_of m)) (formed m && priced m) (lt-ltb n (serial_of m) l) (and_from (formed m) (priced m) f p)
-
 above : (n : ℕ) (m : List ℕ) → fits_after n m ≡ true → n < serial_of m
 above n m h = ltb-true n (serial_of m) (and_parts (ltb n (serial_of m)) (formed m && priced m) h).0
 

@@ -11,7 +11,7 @@ use permutation::Permutation;
 use sliced::Sliced;
 
 // What the two forms answer.
-#[derive(Clone, Copy)]
+#[derive(Debug, Clone, Copy, PartialEq, Eq)]
 pub struct BothForms {
     pub grouped: [u8; 128],
     pub sliced: [u8; 128],

@@ -25,7 +25,8 @@ impl State {
     }
 
     // Seven rounds, those of turn `turn`.
-    // Kept: as a list, for speed. A `for` over the seven widths takes 1.10 times C with SSE2, where the list takes 1.05; one loop over the 42 rounds takes 1.31.
+    // Kept: as a list, for speed. The bar is 1.1 times C with SSE2: a `for` over the seven widths takes 1.102 and misses it, where the list takes 1.046;
+    // one loop over the 42 rounds takes 1.31.
     fn next_seven(self, turn: usize) -> State
         requires { turn < 6 }
         ensures { Steps (7 * turn) self (7 * (turn + 1)) result }

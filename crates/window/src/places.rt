@@ -24,6 +24,7 @@ const BLANK: Passage = Passage {
 };
 
 // The serial, as the bytes of the passage have it.
+#[tactic(auto, using(passages::proofs::Encodings::serial_encoded))]
 fn serial(passage: &Passage) -> u32
     ensures { result ≡ serial_of (encoded passage.now) }
 {
@@ -31,6 +32,7 @@ fn serial(passage: &Passage) -> u32
 }
 
 // The charged cents, as the bytes of the passage have them.
+#[tactic(auto, using(passages::proofs::Encodings::charged_encoded))]
 fn charged(passage: &Passage) -> u64
     ensures { result ≡ charged_of (encoded passage.now) }
 {

@@ -1,5 +1,5 @@
 // How long the runs of bits are that `Word::exchange` moves.
-#[derive(Clone, Copy)]
+#[derive(Debug, Clone, Copy, PartialEq, Eq)]
 pub enum Width {
     W1,
     W2,
