@@ -1,5 +1,5 @@
 -- A session that stands where the lines so far led.
-use Rattle.std.specs.Prelude.{◌≡◌, ℕ, false, List, [], Ok, Err, Option, Result}
+use Rattle.std.specs.Prelude.{◌≡◌, ℕ, false, [], Ok, Err, Option, Result}
 use Rattle.press.specs.Meaning.{Meaning}
 use Rattle.refusals.specs.Refusals.{number, size_refusal}
 use Rattle.press.specs.declared.Declined.{Declined}
