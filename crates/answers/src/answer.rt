@@ -4,6 +4,8 @@ use refusals::refusal::Refusal;
 use refusals::size::DigestSize;
 
 // The answer to a request, as a line tells it.
+// Kept: a refusal is one of the five answers that the protocol has; as a Result it would stand apart from the other four, which
+// are four kinds of success and need an enum of their own all the same.
 #[derive(Clone, Copy, Debug, PartialEq, Eq)]
 pub enum LineAnswer {
     // The call was made.

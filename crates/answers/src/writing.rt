@@ -10,6 +10,8 @@ const MOST: usize = 137;
 
 impl LineAnswer {
     // The fields of the line, parted by tabs.
+    // Kept: pushes are plainer than `write!` into a text: it has no heap and always has room, the hexadecimal digits of a block
+    // have no Display of their own, and each `write!` would answer a Result that never fails.
     fn fields(&self) -> Text<MOST>
         ensures { Tells result (said self.now) }
     {

@@ -1,5 +1,5 @@
 -- A row of requests, one more; and what a roll tells after it.
-use Rattle.std.proofs.Common.{◌≡◌, ℕ, ◌+◌, ◌/◌, ◌<◌, true, List, [], ◌∷◌, ◌++◌, length, get_or, take, drop, set, Ok, Err, Result, sym, refl, ap, ◌∙◌, subst, ap₂}
+use Rattle.std.proofs.Common.{◌≡◌, ℕ, ◌+◌, ◌/◌, ◌<◌, true, List, [], ◌∷◌, ◌++◌, length, get_or, take, drop, set, Ok, Err, Result, sym, ap, ◌∙◌, subst, ap₂}
 use Rattle.press.specs.Meaning.{Meaning}
 use Rattle.std.proofs.lemmas.List.{take_more_set, drop-drop, drop-set}
 use Rattle.std.proofs.lemmas.List.Sums.{fold_more}
@@ -7,10 +7,9 @@ use Rattle.std.proofs.lemmas.Bool.{eqb-false}
 use Rattle.std.specs.List.{AllByRecursion}
 use Rattle.byte_strings.specs.Bytes.{Bytes}
 use Rattle.refusals.specs.Refusals.{number, outcome, buffer_refusal}
-use Rattle.refusals.specs.Sizes.{bits_in, is_size}
+use Rattle.refusals.specs.Sizes.{is_size}
 use Rattle.refusals.specs.declared.refusal.Refusal.{Refusal}
-use Rattle.refusals.specs.declared.size.DigestSize.{DigestSize}
-use Rattle.refusals.specs.declared.size.DigestSize.TheVariants.{D224, D256, D384, D512}
+use Rattle.refusals.proofs.Sizes.{room_enough}
 use Rattle.daybook.specs.Contents.{Contents}
 use Rattle.daybook.specs.Daybook.{Call, Daybook, daybook}
 use Rattle.daybook.specs.Course.{Keeps}
@@ -54,15 +53,9 @@ pub wrote : (r : Result (Unit {0}) Refusal) (n : ℕ) (text old new : List ℕ) 
 wrote (Ok u) n text old new e w = w.1
 wrote (Err x) n text old new e w = absurd (eqb-false (number x) 0 (not_zero x) e)
 
-room_of : (s : DigestSize) → buffer_refusal 64 (bits_in s / 8) ≡ 0
-room_of D224 = refl
-room_of D256 = refl
-room_of D384 = refl
-room_of D512 = refl
-
 -- a digest has room in 64 bytes
 pub digest_room : (n : ℕ) → is_size n ≡ true → buffer_refusal 64 (n / 8) ≡ 0
-digest_room n h = let named = size_named n h in subst (λ (k : ℕ). buffer_refusal 64 (k / 8) ≡ 0) named.1 (room_of named.0)
+digest_room n h = let named = size_named n h in subst (λ (k : ℕ). buffer_refusal 64 (k / 8) ≡ 0) named.1 (room_enough named.0)
 
 pub total_is : (k : Contents) (d : Daybook) → Keeps k d → total_of k ≡ total_at d
 total_is k d h = ap₂ (λ (x y : ℕ). let t : Total = record { cents = x; count = y } in t) (cents_are k d h) (standing_is k d h)

@@ -17,6 +17,8 @@ pub enum Request<'a> {
 }
 
 // What a request is answered.
+// Kept: a refusal is one of the five answers that a request can get; as a Result it would stand apart from the other four, which
+// have no one kind of success and need an enum of their own all the same.
 #[derive(Clone, Copy, PartialEq, Eq, Debug)]
 pub enum Answer {
     // The state of the roll does not allow the call.

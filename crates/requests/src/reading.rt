@@ -1,11 +1,13 @@
 // A line, read.
-ghost use Rattle.std.specs.Prelude.{◌≡◌};
+ghost use Rattle.std.specs.Prelude.{◌≡◌, ok_or};
+ghost use Rattle.refusals.specs.declared.refusal.Refusal.TheVariants.{Request};
 ghost use Rattle.requests.specs.Requests.{alone_of, pass_of, cancel_of, press_of, open_of, word_of, request_of};
 
 use crate::request::{LineRequest, PressName};
 use fields::cuts::cut;
 use fields::decimals::number;
 use fields::hex::bytes;
+use refusals::refusal::Refusal;
 
 // A request of one word.
 fn alone(line: &[u8]) -> Option<LineRequest>
@@ -33,13 +35,18 @@ fn cancel(field: &[u8]) -> Option<LineRequest>
     Some(LineRequest::Cancel(serial))
 }
 
-fn press_name(word: &[u8]) -> Option<PressName>
-    ensures { result ≡ press_of word.now }
-{
-    match word {
-        b"jh" => Some(PressName::Jh),
-        b"drill" => Some(PressName::Drill),
-        _ => None,
+// The press that a word names.
+impl TryFrom<&[u8]> for PressName {
+    type Error = Refusal;
+
+    ghost try_from_gives = { λ word r. r ≡ ok_or (press_of word.now) Request };
+
+    fn try_from(word: &[u8]) -> Result<Self, Refusal> {
+        match word {
+            b"jh" => Ok(PressName::Jh),
+            b"drill" => Ok(PressName::Drill),
+            _ => Err(Refusal::Request),
+        }
     }
 }
 
@@ -47,7 +54,7 @@ fn open(rest: &[u8]) -> Option<LineRequest>
     ensures { result ≡ open_of rest.now }
 {
     let (word, size) = cut(rest, b'\t')?;
-    let press = press_name(word)?;
+    let press = PressName::try_from(word).ok()?;
     let bits = number(size)?;
     Some(LineRequest::Open(press, bits))
 }
@@ -64,12 +71,17 @@ fn by_word(word: &[u8], rest: &[u8]) -> Option<LineRequest>
     }
 }
 
-// The request on a line, without its line feed; none for a line that is no request.
-pub fn read(line: &[u8]) -> Option<LineRequest>
-    ensures { result ≡ request_of line.now }
-{
-    match cut(line, b'\t') {
-        Some((word, rest)) => by_word(word, rest),
-        None => alone(line),
+// The request on a line, without its line feed; refuses a line that is no request.
+impl TryFrom<&[u8]> for LineRequest {
+    type Error = Refusal;
+
+    ghost try_from_gives = { λ line r. r ≡ ok_or (request_of line.now) Request };
+
+    fn try_from(line: &[u8]) -> Result<Self, Refusal> {
+        let request = match cut(line, b'\t') {
+            Some((word, rest)) => by_word(word, rest),
+            None => alone(line),
+        };
+        request.ok_or(Refusal::Request)
     }
 }

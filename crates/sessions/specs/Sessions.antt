@@ -1,5 +1,5 @@
 -- A session that stands where the lines so far led.
-use Rattle.std.specs.Prelude.{◌≡◌, ℕ, false, List, [], Ok, Err, Option, Result}
+use Rattle.std.specs.Prelude.{◌≡◌, ℕ, false, [], Ok, Err, Option, Result}
 use Rattle.press.specs.Meaning.{Meaning}
 use Rattle.refusals.specs.Refusals.{number, size_refusal}
 use Rattle.press.specs.declared.Declined.{Declined}
@@ -36,6 +36,8 @@ module _ {P : Type 0} (f : P → Meaning) where
   Opened p bits (Ok r) = (size_refusal bits ≡ 0) × Holds p r (open_roll bits [])
   Opened p bits (Err d) = (size_refusal bits ≡ number d.refusal) × (d.press ≡ p)
 
+-- Kept: the meanings of both kinds of press stand side by side, since each kind is a type of its own, and a record of the two would
+-- be written out at each clause.
 module _ {J D : Type 0} (f : J → Meaning) (g : D → Meaning) where
   -- the session over the presses j and d came by that course
   abbrev pub CameBy : J → D → Session J D → Course → Type 0

@@ -1,8 +1,4 @@
 // A session: the requests of one caller, on one roll.
-ghost use Rattle.std.specs.Prelude.{◌≡◌, Ok, Err, MatchResult};
-ghost use Rattle.refusals.specs.Refusals.{number};
-ghost use Rattle.answers.specs.Said.{said};
-ghost use Rattle.answers.specs.Said.Said.{done, refused};
 ghost use Rattle.requests.specs.Requests.{request_of};
 ghost use Rattle.sessions.specs.Sessions.{Opened, Answers, GoesOn};
 
@@ -12,7 +8,6 @@ use answers::answer::LineAnswer;
 use press::{Declined, Press};
 use refusals::refusal::Refusal;
 use replay::roll::Roll;
-use requests::reading::read;
 use requests::request::{LineRequest, PressName};
 use rolls::state::OpenRoll;
 
@@ -34,21 +29,6 @@ fn open<P: Press>(press: P, bits: u64) -> Result<SizedRoll<P>, Declined<P>>
     })
 }
 
-// Opens a roll over the press, and answers; the session is made of the roll, or of the press that came back.
-fn begin<P: Press, S, F: FnOnce(Result<SizedRoll<P>, P>) -> S>(
-    press: P,
-    bits: u64,
-    session: F,
-) -> (S, LineAnswer)
-    requires { F.IsAlwaysCallable session }
-    ensures { (r : _) × Opened P.means press bits r × MatchResult r (λ roll. F.post session (Ok roll) result.0 × (said result.1 ≡ done)) (λ d. F.post session (Err d.press) result.0 × (said result.1 ≡ refused (number d.refusal))) }
-{
-    match open(press, bits) {
-        Ok(roll) => (session(Ok(roll)), LineAnswer::Done),
-        Err(Declined { press, refusal }) => (session(Err(press)), LineAnswer::Refused(refusal)),
-    }
-}
-
 // A request before a roll is open: only an open is allowed.
 fn first<J: Press + Drop, D: Press + Drop>(
     jh: J,
@@ -57,15 +37,24 @@ fn first<J: Press + Drop, D: Press + Drop>(
 ) -> (Session<J, D>, LineAnswer)
     ensures { Answers J.means D.means (Session.Unopened jh drill) request.now result.0 result.1 }
 {
+    // Kept: two arms of four lines are plainer than a function that takes the variant as a closure, and whose clause says what
+    // the closure makes.
     match request {
-        LineRequest::Open(PressName::Jh, bits) => begin(jh, *bits, |opened| match opened {
-            Ok(roll) => Session::Jh(roll),
-            Err(jh) => Session::Unopened(jh, drill),
-        }),
-        LineRequest::Open(PressName::Drill, bits) => begin(drill, *bits, |opened| match opened {
-            Ok(roll) => Session::Drill(roll),
-            Err(drill) => Session::Unopened(jh, drill),
-        }),
+        LineRequest::Open(PressName::Jh, bits) => match open(jh, *bits) {
+            Ok(roll) => (Session::Jh(roll), LineAnswer::Done),
+            Err(Declined { press, refusal }) => {
+                (
+                    Session::Unopened(press, drill),
+                    LineAnswer::Refused(refusal),
+                )
+            }
+        },
+        LineRequest::Open(PressName::Drill, bits) => match open(drill, *bits) {
+            Ok(roll) => (Session::Drill(roll), LineAnswer::Done),
+            Err(Declined { press, refusal }) => {
+                (Session::Unopened(jh, press), LineAnswer::Refused(refusal))
+            }
+        },
         _ => (
             Session::Unopened(jh, drill),
             LineAnswer::Refused(Refusal::Request),
@@ -80,7 +69,7 @@ fn request<J: Press + Drop, D: Press + Drop>(
 ) -> (Session<J, D>, LineAnswer)
     ensures { Answers J.means D.means session request.now result.0 result.1 }
 {
-    // Kept: two arms of two lines are plainer than a function that takes the variant as a closure.
+    // Kept: two arms of two lines are plainer than a function that takes the variant as a closure, as in `first`.
     match session {
         Session::Unopened(jh, drill) => first(jh, drill, request),
         Session::Jh(roll) => {
@@ -102,8 +91,8 @@ pub fn answer<J: Press + Drop, D: Press + Drop>(
 ) -> (Session<J, D>, LineAnswer)
     ensures { GoesOn J.means D.means session (request_of line.now) result.0 result.1 }
 {
-    match read(line) {
-        Some(asked) => request(session, &asked),
-        None => (session, LineAnswer::Refused(Refusal::Request)),
+    match LineRequest::try_from(line) {
+        Ok(asked) => request(session, &asked),
+        Err(refusal) => (session, LineAnswer::Refused(refusal)),
     }
 }

@@ -1,5 +1,5 @@
 -- The report of a message, line by line.
-use Rattle.std.proofs.Common.{◌≡◌, ℕ, ◌+◌, ◌*◌, ◌/◌, ◌^◌, ◌<◌, ◌≤◌, Bool, ltb, List, [], ◌∷◌, ◌++◌, length, take, drop, decimal, Ok, Err, Result, refl, ap, ◌∙◌, ap₂, arith, lit≤, MatchResult}
+use Rattle.std.proofs.Common.{◌≡◌, ℕ, ◌+◌, ◌*◌, ◌/◌, ◌^◌, ◌<◌, ◌≤◌, Bool, ltb, List, [], ◌∷◌, ◌++◌, length, take, drop, decimal, Ok, Err, Result, refl, ap, ◌∙◌, ap₂, arith, MatchResult}
 use Rattle.std.specs.Fmt.{digits}
 use Rattle.std.proofs.lemmas.List.{length-append, length-drop, take_at}
 use Rattle.std.proofs.lemmas.Bool.{cond-true, cond-false, lt-ltb, le-ltb}
@@ -9,6 +9,7 @@ use Rattle.refusals.specs.declared.size.DigestSize.TheVariants.{D224, D256, D384
 use Rattle.refusals.specs.Sizes.{bits_in}
 use Rattle.refusals.specs.Refusals.{outcome, buffer_refusal}
 use Rattle.refusals.proofs.Numbers.{positive}
+use Rattle.refusals.proofs.Sizes.{digest_short, room_enough}
 use Rattle.fields.specs.Hex.{hex_of}
 use Rattle.fields.proofs.Texts.{then_part, length_hex}
 use Rattle.jh.specs.Message.{bits_of}
@@ -23,19 +24,6 @@ use Rattle.summary.specs.Report.{refusal_line, line, lines, report_of, Adds, Add
 accepted : {T : Type 0} (r : Result T Refusal) (A : Type 0) (B : Refusal → Type 0) → outcome r ≡ 0 → MatchResult r (λ _. A) B → A
 accepted (Ok x) A B e c = c
 accepted (Err d) A B e c = absurd (let no : ⊥ = omega (arith, positive d) in no)
-
--- 64 bytes hold a digest of any size
-enough : (s : DigestSize) → buffer_refusal 64 (bits_in s / 8) ≡ 0
-enough D224 = refl
-enough D256 = refl
-enough D384 = refl
-enough D512 = refl
-
-small : (s : DigestSize) → bits_in s / 8 ≤ 64
-small D224 = lit≤ tt
-small D256 = lit≤ tt
-small D384 = lit≤ tt
-small D512 = lit≤ tt
 
 pub three_digits : (s : DigestSize) → length (decimal (bits_in s)) ≡ 3
 unfolding digits
@@ -54,11 +42,11 @@ module _ {P : Type 0} (image : P → List ℕ → List ℕ) (p : P) (m : List �
       → MatchResult r (λ _. Writes image (jh_over (image f.feeder.press.permutation)) f z d) (λ _. d ≡ z)
       → (length digest ≡ bits_in s / 8) × (take (bits_in s / 8) d ≡ digest)
   finished r z d lz ld answer written =
-      let w = accepted r (Writes image (jh_over (image f.feeder.press.permutation)) f z d) (λ _. d ≡ z) (answer ∙ enough f.feeder.size) written in
+      let w = accepted r (Writes image (jh_over (image f.feeder.press.permutation)) f z d) (λ _. d ≡ z) (answer ∙ room_enough f.feeder.size) written in
       let e : d ≡ digest ++ drop (bits_in s / 8) z =
       w m held.stands
       ∙ ap₂ (λ (q : P) (t : DigestSize). jh_over (image q) (bits_in t) (bits_of m) ++ drop (bits_in t / 8) z) held.permutation held.size in
-      let l : length digest ≡ bits_in s / 8 = omega (arith, small s, ap length e, length-append digest (drop (bits_in s / 8) z), length-drop (bits_in s / 8) z) in
+      let l : length digest ≡ bits_in s / 8 = omega (arith, digest_short s, ap length e, length-append digest (drop (bits_in s / 8) z), length-drop (bits_in s / 8) z) in
       (l, ap (take (bits_in s / 8)) e ∙ take_at digest (drop (bits_in s / 8) z) (bits_in s / 8) l)
 
 -- the parts of a line, and of the whole report, one after the other

@@ -6,6 +6,8 @@ use Rattle.requests.proofs.reading.by_word.Goals as goal
 pub returns-in-cancel : goal.returns-in-cancel
 returns-in-cancel c = let e : c.args.word.now ≡ codes "cancel" = text_from_reads c.args.word.now (codes "cancel") (omega arith) (search rules) in c.cancel.ensures ∙ ap (λ w. word_of w c.args.rest.now) (sym e)
 
+-- Kept: the same answer at each, since as a lemma that the function names once it is tried only after every other tactic has failed
+-- there, and the check takes several times as long.
 pub returns-in_default : goal.returns-in_default
 returns-in_default c = grind rules
 

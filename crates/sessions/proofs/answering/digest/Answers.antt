@@ -4,7 +4,7 @@ use Rattle.daybook.specs.Daybook.{daybook, unwritten}
 use Rattle.daybook.proofs.Notes.{size_kept}
 use Rattle.replay.specs.Heard.{shut, digest_at}
 use Rattle.answers.specs.Said.Said.{closed}
-use Rattle.answers.proofs.Sizes.{digest_short}
+use Rattle.refusals.proofs.Sizes.{digest_short}
 use Rattle.sessions.proofs.Digests.{digest_in, front}
 use Rattle.sessions.proofs.answering.digest.Goals as goal
 

@@ -8,7 +8,7 @@ use Rattle.fields.proofs.Texts.{then_part, length_hex}
 use Rattle.answers.specs.Said.{capacity}
 use Rattle.answers.specs.declared.answer.LineAnswer.TheVariants.{Refused, Shipped, Closed, Total}
 use Rattle.answers.proofs.Fields.{tells}
-use Rattle.answers.proofs.Sizes.{digest_short}
+use Rattle.refusals.proofs.Sizes.{digest_short}
 use Rattle.answers.proofs.answer.LineAnswer.fields.Goals as goal
 
 pub returns-in-Refused : goal.returns-in-Refused
