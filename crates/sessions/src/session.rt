@@ -37,7 +37,7 @@ fn first<J: Press + Drop, D: Press + Drop>(
 ) -> (Session<J, D>, LineAnswer)
     ensures { Answers J.means D.means (Session.Unopened jh drill) request.now result.0 result.1 }
 {
-    // Kept: two arms of four lines are plainer than a function that takes the variant as a closure, and whose clause says what
+    // Kept: two arms of a few lines are plainer than a function that takes the variant as a closure, and whose clause says what
     // the closure makes.
     match request {
         LineRequest::Open(PressName::Jh, bits) => match open(jh, *bits) {
