@@ -30,6 +30,7 @@ impl FieldFault {
 }
 
 // The number of a decimal field; refuses any other field as malformed.
+// Kept: the line beside the field: with a struct of both, line 1 holds its number five times, and a clause says they agree.
 pub fn number_at(field: &[u8], line: u32) -> Result<u64, FieldFault>
     ensures { MatchResult result (λ x. number_at line field.now ≡ Ok x) (λ e. number_at line field.now ≡ Err (number_of e.refusal, e.line)) }
 {

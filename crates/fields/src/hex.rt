@@ -25,13 +25,20 @@ fn all_hex(field: &[u8]) -> bool
     field.iter().all(|b| is_hex_digit(*b))
 }
 
+// The byte of two digits, the high half first.
+fn byte(high: u8, low: u8) -> u8
+    requires { (is_hex_digit high ≡ true) × (is_hex_digit low ≡ true) }
+    ensures { result ≡ 16 * nibble_of high + nibble_of low }
+{
+    16 * nibble(high) + nibble(low)
+}
+
 // Byte i that a field writes.
 fn byte_at(field: &[u8], i: usize) -> u8
     requires { (2 * i + 1 < length field.now) × (all_hex field.now ≡ true) }
     ensures { result ≡ slice_index (bytes_of field.now) i }
 {
-    let (high, low) = (field[2 * i], field[2 * i + 1]);
-    16 * nibble(high) + nibble(low)
+    byte(field[2 * i], field[2 * i + 1])
 }
 
 // Whether a field writes n bytes.

@@ -20,6 +20,7 @@ use refusals::refusal::Refusal;
 const MOST: usize = 110 + 263 + 134 * 32;
 
 // Adds a tab and a decimal number.
+// Kept: by `write!` a block's digits need a type with a `Display`, and each call answers a Result, though none can fail.
 fn push_field(text: &mut Text<MOST>, n: u64)
     ensures bytes { text.new ≡ take capacity (text.old ++ field_text n) }
     ensures short { length (field_text n) ≤ 21 }
