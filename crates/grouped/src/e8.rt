@@ -51,6 +51,7 @@ impl Permutation for Grouped {
     ghost kept = { λ p x b. let e = e8_undone x b in (e.2, e.3) };
 
     // The state becomes its image under E8.
+    #[tactic(auto, unfolding(jh::specs::Permutation::e8))]
     fn forth(&self, state: &mut [u8; 128]) {
         let mut elements = group(state);
         rounds_forth(&mut elements, ROUNDS);

@@ -11,7 +11,7 @@ ghost use Rattle.sliced.specs.Slices.{element_at};
 use words::{Width, Word};
 
 // Element i is bit i of each word, the first word's the highest.
-// Kept: four fields. The circuits take and make each word by its own name, and what an element is would need a default word to read it from an array.
+// Kept: four fields. The circuits take and make each word by its own name, so a pattern of an array of four at each of them would be as long as the fields are.
 #[derive(Clone, Copy)]
 pub(crate) struct Slices(
     pub(crate) Word,

@@ -14,7 +14,8 @@ use refusals::refusal::Refusal;
 use refusals::size::DigestSize;
 
 // A feeder for each digest size, all fed the same bytes.
-// Kept: four named fields, since a generic type in an array can be gone through only on the heap, which libraries here do without.
+// Kept: four named fields. With an array of four feeders, gone through by `iter_mut`, each method is proved, but `Write` for `Summary` is not:
+// its `write-tells` stays open, since calls through a trait want no array of a type parameter in a generic struct.
 #[derive(Drop)]
 pub struct Feeders<P> {
     pub(crate) d224: JhFeeder<P>,

@@ -34,6 +34,7 @@ impl Digest {
     }
 
     // What a line has: a count of bits, a message, a digest size and a digest.
+    // Kept: beside `of_bytes`. The fields stand in another order, so the two share the last field alone, and a function for it would be no shorter.
     pub fn of_bits(heap: Global, line: &str) -> anyhow::Result<Digest> {
         let mut fields = line.split('\t');
         let bits = fields.next().context("no count")?.parse::<u64>()?;
