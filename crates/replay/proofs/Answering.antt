@@ -1,5 +1,5 @@
 -- What a call answers, in the daybook's words.
-use Rattle.std.proofs.Common.{◌≡◌, ℕ, ◌≤◌, false, eqb, List, [], ◌++◌, length, take, drop, IfOk, Ok, Err, Result, sym, refl, ap, ◌∙◌, ap₂, arith}
+use Rattle.std.proofs.Common.{◌≡◌, ℕ, ◌≤◌, false, eqb, List, [], ◌++◌, length, take, drop, IfOk, Ok, Err, Result, sym, ap, ◌∙◌, ap₂, arith}
 use Rattle.press.specs.Meaning.{Meaning}
 use Rattle.std.proofs.lemmas.List.{append_assoc, append-nil, take_at, take_all, drop_all, length-take-le}
 use Rattle.std.proofs.lemmas.Bool.Decides.{nat_tests}
