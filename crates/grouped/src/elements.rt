@@ -65,7 +65,7 @@ impl<const N: usize> Elements<N> {
         ensures { EachPair (F.post layer) self.old self.new }
     {
         let from = self.places;
-        // Kept: written by place, here and in the two below, since of chunks that were lent to be written a proof knows only how many there are.
+        // Kept: written by place, here and in the two below, and a second row read by it, since of chunks that were lent to be written a proof knows only how many there are.
         for (i, &[a, b]) in from.as_chunks::<2>().0.iter().enumerate() {
             let (c, d) = layer((a, b));
             self.places[2 * i] = c;
