@@ -31,7 +31,8 @@ pub extern "C" fn gobutlin_jh_grouped(size: u32, message: &[u8], out: &mut [u8])
     number(digest_of_bytes(&JhPress::new(Grouped), size, message, out))
 }
 
-// 0, or the number of the refusal: C has no Result.
+// 0, or the number of the refusal.
+// Kept: a number of both, since the C interface has no Result.
 fn number(answer: Result<(), Refusal>) -> u32
     ensures { result ≡ outcome answer }
 {

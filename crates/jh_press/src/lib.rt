@@ -64,6 +64,7 @@ impl<P: Permutation> Press for JhPress<P> {
         last
     }
 
+    // Kept: the same line in both presses, each of which tells all four functions itself.
     fn ending(&self, count: u32) -> Block {
         last_block(count)
     }

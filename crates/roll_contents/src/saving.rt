@@ -22,6 +22,7 @@ pub struct Resumed {
 }
 
 // The contents that the text of a valid roll tells.
+// Kept: field by field, since a snapshot may be of no valid roll, and the contents of a roll are of one by their type.
 fn contents_in(snapshot: &Snapshot) -> RollContents
     requires { Valid (saved_in snapshot.now) }
     ensures { contents_of result ≡ contents_in (saved_in snapshot.now) }

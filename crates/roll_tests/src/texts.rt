@@ -47,7 +47,7 @@ fn told(fault: TextFault) -> (u8, u32) {
     (fault.refusal.into(), fault.line)
 }
 
-// Kept: by number, as docs/refusals.md has it and as a reader of a refusal sees it.
+// Kept: by number, so that the tests keep the values that docs/refusals.md has.
 fn fault(number: u8, line: u32) -> Result<(), (u8, u32)> {
     Err((number, line))
 }

@@ -24,6 +24,7 @@ const MOST_STANDING: u64 = limits::MOST_STANDING as u64;
 const HIGHEST: u64 = u32::MAX as u64;
 
 // The numbers of line 1, as they are read.
+// Kept: beside the fields of `Line::Roll` and the numbers of `Head`: one type over bytes, numbers and narrow numbers would say less than three.
 #[derive(Clone, Copy, Debug, PartialEq, Eq)]
 pub struct LineNumbers {
     pub size: u64,

@@ -60,6 +60,7 @@ impl<P: Permutation + Copy> Feeders<P> {
 }
 
 // Finishes a feeder, and adds the line of its digest to a text.
+// Kept: pushes are plainer than `write!` into a text, which has no heap: a digest's digits have no Display of their own.
 fn push_line<P: Permutation>(text: &mut Text<364>, feeder: &mut JhFeeder<P>)
     ensures { (p : P) (m : List ℕ) (s : Size) → Holds P.image p m s feeder.old → Adds (jh_over (P.image p)) (bits_in s) m text.old text.new }
 {
