@@ -5,6 +5,7 @@ ghost use Rattle.std.specs.Prelude.{◌≡◌, ℕ, ◌/◌, List, ◌++◌, len
 ghost use Rattle.refusals.specs.Refusals.{outcome, buffer_refusal};
 ghost use Rattle.jh.specs.Jh.{MeansE8};
 ghost use Rattle.daybook.specs.Daybook.{Call, daybook};
+ghost use Rattle.roll_contents.specs.Contents.{WellFormed};
 ghost use Rattle.rolls.specs.Buffers.{Writes};
 ghost use Rattle.rolls.specs.Rolls.{digest_length, digest_in};
 ghost use Rattle.replay.specs.Replays.{Replays};
@@ -26,6 +27,7 @@ pub fn digest<P: Permutation>(roll: &ClosedRoll<JhPress<P>>, out: &mut [u8]) -> 
     ensures answer { outcome result ≡ buffer_refusal (length out.old) (digest_length roll.now) }
     ensures written { Writes result (digest_length roll.now) (digest_in roll.now) out.old out.new }
     ensures jh { MeansE8 (P.image roll.now.press.permutation) → OnOk result ((size : ℕ) (calls : List Call) → CameShut P.image roll.now size calls → out.new ≡ jh_of (daybook size calls) ++ drop (size / 8) out.old) }
+    ensures formed { WellFormed roll.now.contents }
 {
     roll.digest(out)
 }

@@ -1,11 +1,12 @@
 -- What the contents of a roll are to the daybook, and what the tests on them find.
-use Rattle.std.specs.Prelude.{◌≡◌, ℕ, ◌<◌, true, List, length, Some, None, Ok, Err, Option, Result}
+use Rattle.std.specs.Prelude.{◌≡◌, ℕ, ◌*◌, ◌<◌, ◌≤◌, true, List, length, Some, None, Ok, Err, Option, Result}
 use Rattle.std.specs.List.{remove}
 use Rattle.refusals.specs.declared.refusal.Refusal.{Refusal}
 use Rattle.byte_strings.specs.Bytes.{Bytes}
-use Rattle.refusals.specs.Sizes.{bits_in}
+use Rattle.refusals.specs.Sizes.{is_size, bits_in}
 use Rattle.passages.specs.Coding.{encoded}
 use Rattle.passages.specs.Fields.{fits_after}
+use Rattle.passages.specs.Rows.{in_order}
 use Rattle.passages.specs.declared.passage.Passage.{Passage}
 use Rattle.window.specs.Listed.{listed}
 use Rattle.daybook.specs.Contents.{Contents, standing_count, charged_cents, top_serial, with_window, passed, oldest, sent}
@@ -21,6 +22,20 @@ contents_of k =
       last = k.shipped.last;
       cents = k.shipped.cents;
     }
+
+-- what is true of the contents of every roll, by whatever calls it came
+pub record WellFormed (k : Contents) : Type 0 where
+  pub size : is_size k.size ≡ true
+  pub few : length k.window ≤ 32
+  pub most : standing_count k ≤ 1000000
+  -- each passage of the window may stand after the one before it, and the first after the last one shipped
+  pub order : in_order k.last k.window ≡ true
+  -- serials have four bytes and rise from 1 on
+  pub high : k.last ≤ 4294967295
+  pub risen : k.shipped ≤ k.last
+  -- nothing shipped leaves no serial and no cents; cents have four bytes for each passage
+  pub fresh : k.last ≤ k.shipped * 4294967295
+  pub paid : k.cents ≤ k.shipped * 4294967295
 
 -- the charged cents and the count of all standing passages
 abbrev pub total_of : Contents → Total

@@ -8,4 +8,5 @@ returns g c =
       answer = e.answer;
       written = e.written;
       jh = λ means. writes_jh g.P.Permutation.image c.args.roll.now means c.args.out.now c.digest.new.out c.digest.result e.written;
+      formed = e.formed;
     }

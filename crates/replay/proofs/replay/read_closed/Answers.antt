@@ -12,5 +12,5 @@ returns g c =
     let d = daybook size calls in
     let e = c.digest.ensures in
     let w = wrote c.digest.result (digest_length s) (digest_in s) (replicate 64 0) c.digest.new.out (e.answer ∙ digest_room s.contents.size e.size) e.written in
-    ap₂ Digested (c.total.ensures ∙ total_is s.contents d h.keeps)
+    ap₂ Digested (c.total.ensures.value ∙ total_is s.contents d h.keeps)
     (w ∙ ap₂ (λ (n : ℕ) (x : List ℕ). drop (128 - n / 8) x ++ drop (n / 8) (replicate 64 0)) h.keeps.size h.sealed)

@@ -10,4 +10,4 @@ returns g c =
     λ p size calls h.
     let s = c.args.roll.now in
     let w = wrote c.seal.result 128 s.seal (replicate 128 0) c.seal.new.out c.seal.ensures.answer c.seal.ensures.written ∙ append-nil s.seal in
-    ap₂ Sealed (c.total.ensures ∙ total_is s.contents (daybook size calls) h.keeps) (w ∙ h.sealed)
+    ap₂ Sealed (c.total.ensures.value ∙ total_is s.contents (daybook size calls) h.keeps) (w ∙ h.sealed)
