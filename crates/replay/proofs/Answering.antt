@@ -1,7 +1,7 @@
 -- What a call answers, in the daybook's words.
-use Rattle.std.proofs.Common.{◌≡◌, ℕ, ◌≤◌, false, eqb, List, [], ◌++◌, length, take, drop, IfOk, Ok, Err, Result, sym, ap, ◌∙◌, ap₂, arith}
+use Rattle.std.proofs.Common.{◌≡◌, ℕ, ◌≤◌, false, eqb, List, ◌++◌, length, take, drop, IfOk, Ok, Err, Result, sym, ap, ◌∙◌, ap₂, arith}
 use Rattle.press.specs.Meaning.{Meaning}
-use Rattle.std.proofs.lemmas.List.{append_assoc, append-nil, take_at, take_all, drop_all, length-take-le}
+use Rattle.std.proofs.lemmas.List.{append_assoc, append-nil, take_at, drop_all}
 use Rattle.std.proofs.lemmas.Bool.Decides.{nat_tests}
 use Rattle.refusals.specs.Refusals.{number, outcome, ship_refusal}
 use Rattle.refusals.specs.declared.refusal.Refusal.{Refusal}
@@ -41,14 +41,6 @@ saved_text s (Ok k) t part part' rest h l w e =
     let front : take k (part' ++ rest) ≡ t =
     ap (λ x. take k (x ++ rest)) h.2 ∙ ap (take k) (append_assoc t (drop (length t) part) rest) ∙ take_at t (drop (length t) part ++ rest) k (sym h.1) in
     (omega (arith, h.0, h.1, w), h.1 ∙ l, ap read_text front ∙ e)
-
--- the first n of some bytes, in a text with room for 4,700
-pub in_text : (none text bytes : List ℕ) (n m : ℕ) → m ≡ n → n ≤ 4700 → length bytes ≡ 4700 → none ≡ [] → text ≡ take 4700 (none ++ take m bytes)
-    → (text ≡ take n bytes) × (length text ≡ n)
-in_text none text bytes n m e few wide empty put =
-    let l = length-take-le n bytes (omega (arith, few, wide)) in
-    let w : text ≡ take n bytes = put ∙ ap₂ (λ t k. take 4700 (t ++ take k bytes)) empty e ∙ take_all 4700 (take n bytes) (omega (arith, l, few)) in
-    (w, ap length w ∙ l)
 
 module _ {P : Type 0} (means : P → Meaning) where
   -- a call that goes on with every course, and whose answer is the number's

@@ -17,7 +17,7 @@ use Rattle.replay.specs.declared.roll.Roll.{Roll}
 use Rattle.replay.specs.declared.roll.Roll.TheVariants.{Open, Saved, Closed}
 
 abbrev pub text_in : SavedText → List ℕ
-text_in t = t.text
+text_in t = take t.len t.bytes
 
 -- a text from which the roll at the state s can be resumed
 abbrev pub KeepsText : {P : Type 0} → State P → SavedText → Type 0

@@ -1,15 +1,19 @@
 // A roll between two requests.
-ghost use Rattle.std.specs.Prelude.{◌≡◌, true, is_ok};
+ghost use Rattle.std.specs.Prelude.{◌≡◌, ◌≤◌, true, is_ok, length, take};
 ghost use Rattle.text_laws.specs.Saved.{read_text};
 
-use fields::text::Text;
 use rolls::state::{ClosedRoll, OpenRoll};
 
-// A saved text: that of a valid roll. No saved text has as many bytes as it has room for.
+// A saved text, that of a valid roll: the first `len` of bytes that are more than any saved text has.
+// Kept: bytes and a count, and no `Text`: tried, and a caller's proof then takes no copy of a saved text, since a Copy struct that
+// holds a struct with a model is not copied where it is passed by value and used again.
 #[derive(Clone, Copy)]
 pub struct SavedText {
-    pub(crate) text: Text<4700>,
-    ghost valid: { is_ok (read_text text) ≡ true },
+    pub(crate) bytes: [u8; 4700],
+    pub(crate) len: usize,
+    ghost wide: { length bytes ≡ 4700 },
+    ghost within: { len ≤ 4700 },
+    ghost valid: { is_ok (read_text (take len bytes)) ≡ true },
 }
 
 impl SavedText {
@@ -19,7 +23,7 @@ impl SavedText {
     pub(crate) fn as_slice(&self) -> &[u8]
         ensures { result.now ≡ text_in self.now }
     {
-        self.text.as_slice()
+        &self.bytes[..self.len]
     }
 }
 

@@ -13,7 +13,6 @@ ghost use Rattle.replay.specs.Stands.{Answers, text_in, KeepsText, SavesText, Tu
 
 use crate::request::{Answer, Request};
 use crate::roll::{Roll, SavedText};
-use fields::text::Text;
 use press::{Block, Press};
 use refusals::refusal::Refusal;
 use refusals::size::DigestSize;
@@ -86,9 +85,7 @@ fn save<P: Press>(roll: &OpenRoll<P>, room: usize) -> Result<SavedText, Refusal>
 {
     let mut bytes = [0; 4700];
     let len = save_into(roll, room, &mut bytes)?;
-    let mut text = Text::new();
-    text.push(&bytes[0..len]);
-    Ok(SavedText { text })
+    Ok(SavedText { bytes, len })
 }
 
 // A save, and the answer to it.
@@ -97,7 +94,7 @@ fn save_turn<P: Press>(roll: OpenRoll<P>, room: usize) -> (Roll<P>, Answer)
 {
     match save(&roll, room) {
         Ok(text) => {
-            let len = text.as_slice().len();
+            let len = text.len;
             (Roll::Saved(roll, text), Answer::Wrote(len))
         }
         Err(refusal) => (Roll::Open(roll), Answer::Refused(refusal)),
