@@ -15,7 +15,7 @@ loop-b-preserved g c =
     let bs = c.args.bytes.now in
     let i = c.loop-b.b-index in
     let old = c.args.self.now in
-    then_part g.row.N old _ _ (hex_of (take i bs)) c.digits.result c.loop-b.invariant c.push.ensures
+    then_part g.row.N old _ _ (hex_of (take i bs)) c.digits.result c.loop-b.invariant c.push_two.ensures
     ∙ ap (λ u. take g.row.N (old ++ u)) (ap (λ u. hex_of (take i bs) ++ u) c.digits.ensures ∙ sym (hex_more bs i c.loop-b-test.true))
 
 pub returns : goal.returns
