@@ -18,7 +18,8 @@ pub fn compare<F: Fn(usize, &str) -> anyhow::Result<bool>>(
         .filter(|line| !line.starts_with('#'))
         .enumerate()
     {
-        tally.count(rt, agrees(place, line).unwrap_or(false), line)?;
+        // Places from 255 on count as 255.
+        tally.count(rt, agrees(place.min(255), line).unwrap_or(false), line)?;
     }
     println!(rt; "{title}: {tally}")?;
     Ok(())
