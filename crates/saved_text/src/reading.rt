@@ -25,6 +25,7 @@ impl From<LineFault> for TextFault {
 }
 
 // The passages from line 3 on, with nothing after them.
+#[tactic(auto, using(crate::proofs::Turns::left_over))]
 fn read_window(text: &[u8], count: u32, last: u32) -> Result<Window, TextFault>
     requires { count ≤ 32 }
     ensures { MatchResult result (λ w. passages count 3 last [] text.now ≡ Ok (listed w)) (λ e. passages count 3 last [] text.now ≡ Err (number_of e.refusal, e.line)) }

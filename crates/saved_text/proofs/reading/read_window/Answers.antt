@@ -6,7 +6,7 @@ use Rattle.window.specs.Listed.{listed}
 use Rattle.window.proofs.Changes.{pushed_in}
 use Rattle.text_laws.specs.Saved.{passages}
 use Rattle.saved_text.specs.Views.{view}
-use Rattle.saved_text.proofs.Turns.{no_line, no_passage, come_on, come_as, left_over}
+use Rattle.saved_text.proofs.Turns.{no_line, no_passage, come_on, come_as}
 use Rattle.saved_text.proofs.reading.read_window.Goals as goal
 
 pub loop-at-init : goal.loop-at-init
@@ -46,9 +46,3 @@ loop-at-preserved c =
       come = come_as c.args.count (c.loop-at.at + 1) c.args.last _ _ _ _ c.in_ok-line.after.now c.args.text.now read.1 g f;
       long = omega (arith, longer);
     }
-
-pub returns-then-not-is_empty : goal.returns-then-not-is_empty
-returns-then-not-is_empty c =
-    let some = sym c.is_empty.ensures ∙ c.if-not-is_empty.true in
-    let f = left_over c.args.count c.loop-at.at c.args.last c.loop-at.before (listed c.loop-at.window) c.loop-at.rest.now c.args.text.now (omega arith) some c.loop-at.invariant.come in
-    grind (arith, f)
